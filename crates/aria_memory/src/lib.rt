@@ -1,0 +1,9 @@
+//! Tables in memory: the plain program that does what the definitions say.
+//!
+//! `Tables` holds the tables of a world and executes statements on them, each in the time of the rows
+//! that it concerns and a logarithm for each. Nothing is kept when it is dropped.
+#![tactic(auto)]
+
+mod tables;
+
+pub use tables::Tables;

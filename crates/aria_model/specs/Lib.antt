@@ -1,0 +1,6 @@
+pub mod Token
+pub mod Grammar
+pub mod World
+pub mod Step
+pub mod Text
+pub mod Script
