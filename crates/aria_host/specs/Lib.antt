@@ -1,0 +1,4 @@
+pub mod Count
+pub mod State
+pub mod Calls
+pub mod Source

@@ -1,0 +1,32 @@
+ghost use Rattle.std.specs.Prelude.{◌≡◌, alloc_error};
+ghost use Rattle.aria_host.specs.declared.fault.Fault.TheVariants.{Memory};
+
+use std::alloc::{AllocError, AllocFailed};
+use thiserror::Error;
+
+/// What went wrong outside the program, or want of memory. A fault ends the run.
+#[derive(Clone, Copy, Debug, Error)]
+pub enum Fault {
+    #[error("want of memory")]
+    Memory(AllocError),
+    #[error("an output stream refused bytes")]
+    Tell,
+    #[error("the input could not be read")]
+    Input,
+}
+
+impl From<AllocError> for Fault {
+    ghost from_gives = { λ _ e. e ≡ Memory alloc_error };
+
+    fn from(_: AllocError) -> Fault {
+        Fault::Memory(AllocError)
+    }
+}
+
+impl<T: Drop> From<AllocFailed<T>> for Fault {
+    ghost from_gives = { λ _ e. e ≡ Memory alloc_error };
+
+    fn from(_: AllocFailed<T>) -> Fault {
+        Fault::Memory(AllocError)
+    }
+}

@@ -1,0 +1,16 @@
+//! The outside of the program: the folder that it works in, what it tells, and what it reads.
+//!
+//! `Host` is the folder and the two output streams, `Source` the input. Each is a trait, so that every layer above is
+//! proved over whatever stands behind it, and its clauses say what a call does, what a crash at any moment may leave,
+//! and which answer has which cause. A `Fault` is what went wrong outside, or want of memory.
+#![tactic(auto)]
+
+mod fault;
+mod file_name;
+mod host;
+mod source;
+
+pub use fault::Fault;
+pub use file_name::FileName;
+pub use host::{Host, Stream};
+pub use source::Source;
