@@ -69,6 +69,13 @@ impl<T: Drop> List<T> {
         self.items.push(item)?;
         Ok(())
     }
+
+    /// Drops all items and keeps their room.
+    pub fn clear(&mut self)
+        ensures { self.new ≡ [] }
+    {
+        self.items.clear()
+    }
 }
 
 impl<T: Copy> List<T> {
