@@ -12,10 +12,12 @@ abbrev pub other_stream : Stream → Stream
 other_stream Out = Err
 other_stream Err = Out
 
--- what telling these bytes on that stream adds to standard output
-abbrev pub told_out : Stream → List ℕ → List ℕ
-told_out Out bytes = bytes
-told_out Err bytes = []
+-- what telling these bytes on the second stream adds to the first
+abbrev pub told_on : Stream → Stream → List ℕ → List ℕ
+told_on Out Out bytes = bytes
+told_on Err Err bytes = bytes
+told_on Out Err bytes = []
+told_on Err Out bytes = []
 
 -- the images are the same
 pub record SameImages (old new : State) : Type 0 where
@@ -29,7 +31,7 @@ pub record Tells (stream : Stream) (bytes : List ℕ) (old new : State) (done : 
   pub other : told (other_stream stream) new ≡ told (other_stream stream) old
   pub folder : new.folder ≡ old.folder
   pub images : SameImages old new
-  pub time : Elapses old new (told_out stream bytes)
+  pub time : Elapses old new (told_on Out stream bytes)
 
 -- It answers no fault but that a stream failed, and that one only where such a fault was counted.
 pub record HasTellCause {T : Type 0} (old new : State) (result : Result T Fault) : Type 0 where

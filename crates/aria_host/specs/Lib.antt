@@ -2,3 +2,4 @@ pub mod Count
 pub mod State
 pub mod Calls
 pub mod Source
+pub mod MemHost

@@ -8,9 +8,11 @@
 mod fault;
 mod file_name;
 mod host;
+mod mem_host;
 mod source;
 
 pub use fault::Fault;
 pub use file_name::FileName;
 pub use host::{Host, Stream};
+pub use mem_host::MemHost;
 pub use source::Source;
