@@ -3,3 +3,4 @@ pub mod State
 pub mod Calls
 pub mod Source
 pub mod MemHost
+pub mod MemSource

@@ -9,10 +9,12 @@ mod fault;
 mod file_name;
 mod host;
 mod mem_host;
+mod mem_source;
 mod source;
 
 pub use fault::Fault;
 pub use file_name::FileName;
 pub use host::{Host, Stream};
 pub use mem_host::MemHost;
+pub use mem_source::MemSource;
 pub use source::Source;
