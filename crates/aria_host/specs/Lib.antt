@@ -4,3 +4,4 @@ pub mod Calls
 pub mod Source
 pub mod MemHost
 pub mod MemSource
+pub mod Untold

@@ -5,16 +5,23 @@
 //! and which answer has which cause. A `Fault` is what went wrong outside, or want of memory.
 #![tactic(auto)]
 
+mod dir_host;
 mod fault;
 mod file_name;
 mod host;
 mod mem_host;
 mod mem_source;
 mod source;
+mod std_source;
 
+pub use dir_host::DirHost;
 pub use fault::Fault;
 pub use file_name::FileName;
 pub use host::{Host, Stream};
 pub use mem_host::MemHost;
 pub use mem_source::MemSource;
 pub use source::Source;
+pub use std_source::StdSource;
+
+#[cfg(test)]
+mod tests;
