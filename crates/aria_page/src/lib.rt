@@ -9,4 +9,4 @@ mod list;
 mod name;
 
 pub use list::{Bytes, List};
-pub use name::Name;
+pub use name::{Name, begins_word, continues_word};

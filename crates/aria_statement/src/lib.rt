@@ -5,7 +5,17 @@
 //! definition in `aria_model`'s `specs/Grammar.antt`.
 #![tactic(auto)]
 
+mod definition;
+mod fault;
+mod lexer;
+mod number;
 mod parser;
+mod productions;
+mod token;
 
 pub use aria_model::Statement;
-pub use parser::{ParseFault, parse};
+pub use fault::ParseFault;
+pub use parser::parse;
+
+#[cfg(test)]
+mod tests;
