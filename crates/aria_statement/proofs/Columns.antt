@@ -1,6 +1,5 @@
 -- Columns gone over from the front.
-use Rattle.std.proofs.Common.{◌≡◌, ℕ, zero, suc, ◌+◌, List, [], ◌∷◌, Option, Some, None, refl, sym, ap, ◌∙◌, arith}
-use Rattle.aria_model.specs.Grammar.{option_suc}
+use Rattle.std.proofs.Common.{ℕ, ◌+◌, Option, Some, None}
 
 -- a number counted from a further place
 abbrev pub further : ℕ → Option ℕ → Option ℕ

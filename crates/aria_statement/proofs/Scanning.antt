@@ -1,11 +1,11 @@
 -- Where the next token of a line stands, and what comes behind it.
-use Rattle.std.proofs.Common.{◌≡◌, ℕ, zero, suc, ◌+◌, ◌-◌, ◌<◌, ◌≤◌, Bool, true, false, cond, List, [], ◌∷◌, length, take, drop, Option, Some, None, IsTrue, refl, sym, ap, ◌∙◌, ◌⊎◌, inl, inr, subst, leb, ℤ, ◌==◌, add-zero, add-one, arith}
+use Rattle.std.proofs.Common.{◌≡◌, ℕ, zero, suc, ◌+◌, ◌-◌, ◌<◌, ◌≤◌, Bool, true, false, cond, List, [], ◌∷◌, length, take, drop, Option, Some, None, refl, sym, ap, ◌∙◌, inl, inr, subst, leb, ℤ, ◌==◌, add-zero, arith}
 use Rattle.std.specs.List.{prefix_len, take_while, list_all}
 use Rattle.std.proofs.lemmas.Bool.{cases_Bool, cond-true, cond-false, or_left, and_from}
 use Rattle.std.proofs.lemmas.List.{drop-drop, length-take, length-take-le}
 use Rattle.std.proofs.lemmas.List.Sums.{prefix_len-le-length}
 use Rattle.aria_page.specs.Word.{begins_word, continues_word}
-use Rattle.aria_model.specs.Token.{Token, Word, Number, Wide, Sign, End, Stray, Spelled, is_blank, is_digit, is_sign, word_of, number_of, negative_of, token_at, tokens_from}
+use Rattle.aria_model.specs.Token.{Token, Word, Number, Wide, Sign, Stray, Spelled, is_blank, is_digit, is_sign, word_of, number_of, negative_of, token_at, tokens_from}
 use Rattle.aria_statement.specs.Lexing.{behind}
 use Rattle.aria_statement.proofs.Steps.{chosen}
 

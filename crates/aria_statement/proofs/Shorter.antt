@@ -1,15 +1,10 @@
 -- Each reader leaves fewer tokens than it was given.
-use Rattle.std.proofs.Common.{◌≡◌, ℕ, zero, suc, ◌<◌, ◌≤◌, List, [], ◌∷◌, length, Option, Some, None, Result, Ok, Err, refl, sym, ap, ◌∙◌, inl, inr, cond, subst, ◌==◌, arith}
+use Rattle.std.proofs.Common.{◌≡◌, ℕ, ◌<◌, ◌≤◌, List, length, Some, Ok, refl, ap, arith}
 use Rattle.std.specs.Prelude.{codes}
-use Rattle.std.specs.List.{AllByRecursion}
 use Rattle.aria_value.specs.declared.value.Value.{Value}
 use Rattle.aria_value.specs.declared.definition.Column.{Column}
-use Rattle.aria_value.specs.declared.definition.ColumnType.TheVariants.{Int}
-use Rattle.aria_value.specs.Defined.{same_name}
-use Rattle.aria_model.specs.declared.refusal.Refusal.{Refusal}
-use Rattle.aria_model.specs.Token.{Token, Word, Number, Wide, Sign, End, Stray}
-use Rattle.aria_model.specs.Grammar.{Tokens, ◌>>=◌, bad, name, keyword, sign, value, items_within, items, column, another_column, behind_comma, another_row, row}
-use Rattle.aria_statement.proofs.Steps.{bind_ok, chosen, done, done_same}
+use Rattle.aria_model.specs.Grammar.{Tokens, name, keyword, sign, value, items, column, another_column, behind_comma, another_row, row}
+use Rattle.aria_statement.proofs.Steps.{bind_ok, done_same}
 use Rattle.aria_statement.proofs.Items.{Shortens, are_items}
 
 name_shorter : (ts : Tokens) (x : List ℕ × Tokens) → name ts ≡ Ok x → length x.1 < length ts

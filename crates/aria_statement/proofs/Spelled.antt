@@ -1,8 +1,7 @@
 -- What every statement has that a line spells.
-use Rattle.std.proofs.Common.{◌≡◌, ℕ, zero, suc, ◌<◌, ◌≤◌, ◌&&◌, not, List, [], ◌∷◌, length, Option, Some, None, Result, Ok, Err, refl, sym, ap, ◌∙◌, inl, inr, cond, subst, leb, arith}
+use Rattle.std.proofs.Common.{◌≡◌, ℕ, zero, suc, ◌<◌, ◌&&◌, not, List, [], ◌∷◌, length, Option, Some, None, Result, Ok, Err, refl, sym, ap, inl, inr, subst, leb, arith}
 use Rattle.std.specs.Prelude.{codes, IfOk, IfSome}
 use Rattle.std.specs.List.{AllByRecursion, list_all}
-use Rattle.aria_value.specs.declared.value.Value.{Value}
 use Rattle.aria_value.specs.declared.definition.Column.{Column}
 use Rattle.aria_value.specs.declared.definition.ColumnType.TheVariants.{Int}
 use Rattle.aria_value.specs.declared.definition.Definition.{Definition}
@@ -12,8 +11,8 @@ use Rattle.aria_model.specs.declared.refusal.Refusal.TheVariants.{BadDefinition}
 use Rattle.aria_model.specs.declared.refusal.Which.TheVariants.{Keys}
 use Rattle.aria_model.specs.declared.statement.Statement.{Statement}
 use Rattle.aria_model.specs.declared.statement.Statement.TheVariants.{Insert, Select, Create}
-use Rattle.aria_model.specs.Token.{Token, Word, Number, Wide, Sign, End, Stray, tokens, is_blank}
-use Rattle.aria_model.specs.Grammar.{Tokens, ◌>>=◌, bad, name, keyword, sign, the_end, items, column, another_column, row, another_row, option_suc, column_number, defined, create, insert, select, statement, read_line, HasNumberKey, IsSpelled}
+use Rattle.aria_model.specs.Token.{Word, Number, Wide, Sign, End, Stray, tokens, is_blank}
+use Rattle.aria_model.specs.Grammar.{Tokens, name, keyword, sign, the_end, items, column, another_column, row, another_row, option_suc, column_number, defined, create, insert, select, statement, read_line, HasNumberKey, IsSpelled}
 use Rattle.aria_statement.specs.declared.fault.ParseFault.{ParseFault}
 use Rattle.aria_statement.specs.Reading.{Reads}
 use Rattle.aria_statement.proofs.Steps.{bind_ok, chosen, done, done_same}

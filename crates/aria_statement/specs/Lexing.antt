@@ -1,5 +1,5 @@
 -- The tokens that the code reads, as those of a line.
-use Rattle.std.specs.Prelude.{ℕ, List, [], ◌∷◌, drop, Option, Some, None}
+use Rattle.std.specs.Prelude.{ℕ, List, [], drop, Option, Some, None}
 use Rattle.aria_model.specs.Token.{Token, Word, Number, Wide, Sign, End, Stray, Spelled, tokens_from}
 use Rattle.aria_statement.specs.declared.token.Token.{Token as Found}
 use Rattle.aria_statement.specs.declared.token.Token.TheVariants as found

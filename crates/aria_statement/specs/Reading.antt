@@ -1,7 +1,6 @@
 -- What a reader of the code answers, beside what a line spells.
 use Rattle.std.specs.Prelude.{◌≡◌, ℕ, List, Option, Some, None, Result, Ok, Err}
 use Rattle.aria_model.specs.declared.refusal.Refusal.{Refusal}
-use Rattle.aria_model.specs.declared.statement.Statement.{Statement}
 use Rattle.aria_model.specs.Token.{Token}
 use Rattle.aria_statement.specs.declared.fault.ParseFault.{ParseFault}
 use Rattle.aria_statement.specs.declared.fault.ParseFault.TheVariants.{Memory, Refused}

@@ -1,6 +1,6 @@
 use super::*;
 use aria_model::{MAX_LINE_BYTES, Refusal, Which};
-use aria_value::Value;
+use aria_value::{Row, Value};
 use std::test::*;
 
 #[derive(Clone, Copy, Debug, PartialEq, Eq)]
@@ -146,38 +146,44 @@ fn limits_of_lines_words_and_columns(rt: HostRuntime) -> Result<(), Fail> {
     Ok(())
 }
 
-#[test]
-fn rows_and_definitions_are_those_of_the_line(rt: HostRuntime) -> Result<(), Fail> {
-    let read = parse(rt.alloc(), b"insert tab (2,20) (-1,0)".as_slice());
-    let Ok(Some(Statement::Insert { name, rows })) = read else {
-        return Err("the line is an insert".into());
-    };
-    assert_eq!(rt; name.as_slice(), b"tab".as_slice());
-    assert_eq!(rt; rows.len(), 2);
-    let mut sum = 0;
-    for row in rows.as_slice() {
-        for value in row.as_slice() {
-            if let Value::Int(n) = value {
-                assert!(rt; *n < 100 && -100 < *n && sum < 1000 && -1000 < sum);
-                sum += *n;
-            }
+fn sum_of(row: &Row) -> i64 {
+    let mut sum = 0i64;
+    for value in row.as_slice() {
+        if let Value::Int(n) = value {
+            sum = sum.wrapping_mul(100).wrapping_add(*n);
         }
     }
-    assert_eq!(rt; sum, 21);
+    sum
+}
 
+#[test]
+fn rows_are_those_of_the_line(rt: HostRuntime) {
+    let read = parse(rt.alloc(), b"insert tab (2,20) (-1,0)".as_slice());
+    if let Ok(Some(Statement::Insert { name, rows })) = &read {
+        assert_eq!(rt; name.as_slice(), b"tab".as_slice());
+        assert_eq!(rt; rows.len(), 2);
+        for (row, want) in rows.as_slice().iter().zip([220, -100]) {
+            assert_eq!(rt; sum_of(row), want);
+        }
+    }
+    assert_eq!(rt; answer_of(&read), Answer::Insert);
+}
+
+#[test]
+fn columns_and_keys_are_those_of_the_line(rt: HostRuntime) {
     let read = parse(
         rt.alloc(),
         b"create tab trans id:int v:int keys k(v)".as_slice(),
     );
-    let Ok(Some(Statement::Create { name, definition })) = read else {
-        return Err("the line is a create".into());
-    };
-    assert_eq!(rt; name.as_slice(), b"tab".as_slice());
-    assert_eq!(rt; definition.columns.len(), 2);
-    assert_eq!(rt; definition.max_rows, 16_777_216);
-    for key in definition.keys.as_slice() {
-        assert_eq!(rt; key.name.as_slice(), b"k".as_slice());
-        assert_eq!(rt; key.columns.as_slice(), [1u8].as_slice());
+    if let Ok(Some(Statement::Create { name, definition })) = &read {
+        assert_eq!(rt; name.as_slice(), b"tab".as_slice());
+        assert_eq!(rt; definition.columns.len(), 2);
+        assert_eq!(rt; definition.keys.len(), 1);
+        assert_eq!(rt; definition.max_rows, 16_777_216);
+        for key in definition.keys.as_slice() {
+            assert_eq!(rt; key.name.as_slice(), b"k".as_slice());
+            assert_eq!(rt; key.columns.as_slice(), [1u8].as_slice());
+        }
     }
-    Ok(())
+    assert_eq!(rt; answer_of(&read), Answer::Create);
 }

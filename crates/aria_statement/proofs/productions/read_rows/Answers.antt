@@ -1,8 +1,8 @@
-use Rattle.std.proofs.Common.{sym, ◌∙◌, subst, arith}
+use Rattle.std.proofs.Common.{sym, arith}
 use Rattle.std.proofs.lemmas.Result.{err_from_is_err_and}
-use Rattle.aria_model.specs.Grammar.{row, another_row, items}
+use Rattle.aria_model.specs.Grammar.{row, another_row}
 use Rattle.aria_statement.specs.Lexing.{left}
-use Rattle.aria_statement.proofs.Items.{SoFar, goes_on, is_done, is_fault}
+use Rattle.aria_statement.proofs.Items.{goes_on, is_done, is_fault}
 use Rattle.aria_statement.proofs.Shorter.{rows_shorten}
 use Rattle.aria_statement.proofs.productions.read_rows.Goals as goal
 
