@@ -1,2 +1,4 @@
+pub mod Keyed
+pub mod Undone
 pub mod Worlds
 pub mod Performs

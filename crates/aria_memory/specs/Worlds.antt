@@ -1,5 +1,5 @@
 -- The world that tables in memory are.
-use Rattle.std.specs.Prelude.{ℕ, List, map, Option, false}
+use Rattle.std.specs.Prelude.{false}
 use Rattle.std.specs.Option.{option_map}
 use Rattle.std.specs.BTreeMap.{get, values}
 use Rattle.std.specs.Cmp.Lexicographic.{slice_cmp}

@@ -4,6 +4,9 @@
 //! that it concerns and a logarithm for each. Nothing is kept when it is dropped.
 #![tactic(auto)]
 
+mod insert;
+mod rows;
+mod select;
 mod tables;
 
 pub use tables::Tables;

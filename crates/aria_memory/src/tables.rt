@@ -1,9 +1,12 @@
-ghost use Rattle.std.specs.Prelude.{◌≡◌, IfOk, OnErr};
-ghost use Rattle.aria_model.specs.Grammar.{IsSpelled};
+ghost use Rattle.std.specs.Prelude.{◌≡◌, IfOk, OnErr, IsTrue};
+ghost use Rattle.aria_model.specs.Grammar.{IsSpelled, HasNumberKey};
 ghost use Rattle.aria_model.specs.World.{empty_world};
+ghost use Rattle.aria_memory.specs.Keyed.{has_number_key, are_keyed};
 
-use aria_model::{Reply, Statement};
-use aria_page::{Bytes, Name};
+use crate::insert::insert_all;
+use crate::select::{has_key, push_rows};
+use aria_model::{MAX_STATEMENT_ROWS, Refusal, Reply, Statement};
+use aria_page::{Bytes, List, Name};
 use aria_value::{Definition, Row};
 use std::alloc::{AllocError, Global};
 use std::collections::BTreeMap;
@@ -13,6 +16,8 @@ use std::collections::BTreeMap;
 pub struct Table {
     definition: Definition,
     rows: BTreeMap<i64, Row>,
+    ghost number_key: { IsTrue (has_number_key definition) },
+    ghost keyed: { IsTrue (are_keyed definition rows.entries) },
 }
 
 /// The tables of a world, by name.
@@ -21,9 +26,41 @@ pub struct Tables {
     by_name: BTreeMap<Name, Table>,
 }
 
+impl Table {
+    ghost use Rattle.aria_memory.specs.Worlds.{table_of};
+    ghost use Rattle.aria_memory.specs.Performs.{InsertsInto, SelectsFrom};
+
+    fn insert(&mut self, alloc: Global, rows: List<Row>) -> Result<Reply, AllocError>
+        ensures inserts { IfOk result (λ reply. InsertsInto (table_of self.old) rows (table_of self.new) reply) }
+        ensures err { OnErr result (table_of self.new ≡ table_of self.old) }
+    {
+        if rows.len() > MAX_STATEMENT_ROWS {
+            return Ok(Reply::No(Refusal::TooManyRows));
+        }
+        let count = rows.len() as u64;
+        match insert_all(alloc, &self.definition, &mut self.rows, rows.into_vec())? {
+            Some(why) => Ok(Reply::No(why)),
+            None => Ok(Reply::Count(count)),
+        }
+    }
+
+    fn select(&self, key: Name, text: &mut Bytes) -> Result<Reply, AllocError>
+        ensures { IfOk result (λ reply. SelectsFrom (table_of self.now) key text.old text.new reply) }
+    {
+        if !has_key(self.definition.keys.as_slice(), key) {
+            return Ok(Reply::No(Refusal::NoKey { name: key }));
+        }
+        push_rows(&self.rows, text)?;
+        Ok(Reply::Count(self.rows.len() as u64))
+    }
+}
+
 impl Tables {
+    ghost use Rattle.std.specs.Prelude.{None};
+    ghost use Rattle.aria_model.specs.Step.{create, insert};
+    ghost use Rattle.aria_model.specs.declared.statement.Statement.TheVariants as statements;
     ghost use Rattle.aria_memory.specs.Worlds.{world_of};
-    ghost use Rattle.aria_memory.specs.Performs.{Performs};
+    ghost use Rattle.aria_memory.specs.Performs.{Leaves, Performs};
 
     /// No tables.
     pub fn new(alloc: Global) -> Tables
@@ -31,6 +68,46 @@ impl Tables {
     {
         Tables {
             by_name: BTreeMap::new(alloc),
+        }
+    }
+
+    fn create(
+        &mut self,
+        alloc: Global,
+        name: Name,
+        definition: Definition,
+    ) -> Result<Reply, AllocError>
+        requires { HasNumberKey definition }
+        ensures creates { IfOk result (λ reply. Leaves (create (world_of self.old) name definition None) (world_of self.new) reply) }
+        ensures err { OnErr result (world_of self.new ≡ world_of self.old) }
+    {
+        if self.by_name.contains_key(&name) {
+            return Ok(Reply::No(Refusal::TableExists { name }));
+        }
+        let table = Table {
+            definition,
+            rows: BTreeMap::new(alloc),
+        };
+        self.by_name.insert(name, table)?;
+        Ok(Reply::Done)
+    }
+
+    fn insert(&mut self, alloc: Global, name: Name, rows: List<Row>) -> Result<Reply, AllocError>
+        ensures inserts { IfOk result (λ reply. Leaves (insert (world_of self.old) name rows None) (world_of self.new) reply) }
+        ensures err { OnErr result (world_of self.new ≡ world_of self.old) }
+    {
+        match self.by_name.get_mut(&name) {
+            None => Ok(Reply::No(Refusal::NoTable { name })),
+            Some(table) => table.insert(alloc, rows),
+        }
+    }
+
+    fn select(&self, name: Name, key: Name, text: &mut Bytes) -> Result<Reply, AllocError>
+        ensures { IfOk result (λ reply. Performs (world_of self.now) (statements.Select name key) (world_of self.now) text.old text.new reply) }
+    {
+        match self.by_name.get(&name) {
+            None => Ok(Reply::No(Refusal::NoTable { name })),
+            Some(table) => table.select(key, text),
         }
     }
 
@@ -46,9 +123,10 @@ impl Tables {
         ensures performs { IfOk result (λ reply. Performs (world_of self.old) statement (world_of self.new) text.old text.new reply) }
         ensures err { OnErr result (world_of self.new ≡ world_of self.old) }
     {
-        let _ = alloc;
-        let _ = statement;
-        let _ = text;
-        Err(AllocError)
+        match statement {
+            Statement::Create { name, definition } => self.create(alloc, name, definition),
+            Statement::Insert { name, rows } => self.insert(alloc, name, rows),
+            Statement::Select { name, key } => self.select(name, key, text),
+        }
     }
 }

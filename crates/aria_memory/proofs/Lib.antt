@@ -1,0 +1,4 @@
+pub mod Entries
+pub mod Numbered
+pub mod Worlds
+pub mod Outcomes

@@ -1,0 +1,146 @@
+-- The outcome of each kind of statement, case by case.
+use Rattle.std.specs.Prelude.{◌≡◌, ℕ, Bool, true, false, cond, nat_lt, List, [], ◌∷◌, ◌||◌, length, Option, Some, None, refl}
+use Rattle.std.specs.List.{list_any}
+use Rattle.std.proofs.Common.{sym, ap, ◌∙◌}
+use Rattle.aria_value.specs.declared.value.Value.{Value}
+use Rattle.aria_value.specs.declared.definition.Column.{Column}
+use Rattle.aria_value.specs.declared.definition.Key.{Key}
+use Rattle.aria_value.specs.declared.definition.Definition.{Definition}
+use Rattle.aria_value.specs.Defined.{same_name}
+use Rattle.aria_value.specs.Order.{key_cmp, sorted}
+use Rattle.aria_model.specs.declared.refusal.Refusal.{Refusal}
+use Rattle.aria_model.specs.declared.refusal.Refusal.TheVariants.{NoTable, TableExists, NoKey, TooManyRows}
+use Rattle.aria_model.specs.declared.reply.Reply.TheVariants.{Done, Count}
+use Rattle.aria_model.specs.World.{World, Table, Content, Sound, Crashed, with_table}
+use Rattle.aria_model.specs.Step.{Outcome, refused, first_of, refused_where, unless, is_taken, create, Puts, put_all, inserted, insert_into, insert, option_suc, key_number, select_from, select}
+use Rattle.aria_memory.specs.Keyed.{are_number_keys, has_number_key}
+
+-- a transactional table of these rows
+abbrev sound : Definition → List (List Value) → Table
+sound d rows = record { definition = d; plain = false; content = Sound rows }
+
+-- ---- create
+
+pub create_taken : (world : World) (name : List ℕ) (d : Definition) → is_taken (world name) ≡ true → create world name d None ≡ refused world (TableExists name)
+create_taken world name d taken = λ i. unless (first_of (refused_where (taken i) (TableExists name) ∷ None ∷ [])) world
+    (record { world = with_table world name (Some (sound d [])); rows = []; reply = Done })
+
+pub create_free : (world : World) (name : List ℕ) (d : Definition) → is_taken (world name) ≡ false
+    → create world name d None ≡ record { world = with_table world name (Some (sound d [])); rows = []; reply = Done }
+create_free world name d free = λ i. unless (first_of (refused_where (free i) (TableExists name) ∷ None ∷ [])) world
+    (record { world = with_table world name (Some (sound d [])); rows = []; reply = Done })
+
+no_rows_unless : (refusal : Option Refusal) (world : World) (outcome : Outcome) → outcome.rows ≡ [] → (unless refusal world outcome).rows ≡ []
+no_rows_unless None world outcome none = none
+no_rows_unless (Some why) world outcome none = refl
+
+-- a create tells no rows
+pub create-rows : (world : World) (name : List ℕ) (d : Definition) → (create world name d None).rows ≡ []
+create-rows world name d = no_rows_unless (first_of (refused_where (is_taken (world name)) (TableExists name) ∷ None ∷ [])) world
+    (record { world = with_table world name (Some (sound d [])); rows = []; reply = Done }) refl
+
+-- ---- insert
+
+-- an insert at what a name has
+abbrev insert_at : World → List ℕ → List (List Value) → Option Table → Outcome
+insert_at world name rows found = elim found [
+  | None ↦ refused world (NoTable name)
+  | Some table ↦ insert_into world name table table.content rows None
+]
+
+pub insert_absent : (world : World) (name : List ℕ) (rows : List (List Value)) → world name ≡ None → insert world name rows None ≡ refused world (NoTable name)
+insert_absent world name rows absent = ap (insert_at world name rows) absent
+
+-- an insert of more rows than a statement may have, or not, whose rows leave these
+abbrev inserts : World → List ℕ → Table → ℕ → Bool → Puts → Outcome
+inserts world name table count many puts = unless (first_of (refused_where many TooManyRows ∷ None ∷ [])) world (inserted world name table count puts)
+
+inserts_by : (world : World) (name : List ℕ) (d : Definition) (old rows : List (List Value)) (many : Bool) (puts : Puts) → world name ≡ Some (sound d old)
+    → nat_lt 65536 (length rows) ≡ many → put_all d None 1 old rows ≡ puts → insert world name rows None ≡ inserts world name (sound d old) (length rows) many puts
+inserts_by world name d old rows many puts has m p =
+    ap (insert_at world name rows) has ∙ (λ i. inserts world name (sound d old) (length rows) (m i) (p i))
+
+pub insert_many : (world : World) (name : List ℕ) (d : Definition) (old rows : List (List Value)) → world name ≡ Some (sound d old) → nat_lt 65536 (length rows) ≡ true
+    → insert world name rows None ≡ refused world TooManyRows
+insert_many world name d old rows has many = inserts_by world name d old rows true (put_all d None 1 old rows) has many refl
+
+-- what rows leave, by its parts
+same_puts : (puts : Puts) (rows : List (List Value)) (refusal : Option Refusal) → rows ≡ puts.rows → refusal ≡ puts.refusal → puts ≡ record { rows = rows; refusal = refusal }
+same_puts puts rows refusal r f = λ i. record { rows = sym r i; refusal = sym f i }
+
+pub insert_refused : (world : World) (name : List ℕ) (d : Definition) (old rows : List (List Value)) (why : Refusal) → world name ≡ Some (sound d old) → nat_lt 65536 (length rows) ≡ false
+    → Some why ≡ (put_all d None 1 old rows).refusal → insert world name rows None ≡ refused world why
+insert_refused world name d old rows why has few refusal =
+    inserts_by world name d old rows false (record { rows = (put_all d None 1 old rows).rows; refusal = Some why }) has few
+    (same_puts (put_all d None 1 old rows) (put_all d None 1 old rows).rows (Some why) refl refusal)
+
+pub insert_put : (world : World) (name : List ℕ) (d : Definition) (old rows new : List (List Value)) → world name ≡ Some (sound d old) → nat_lt 65536 (length rows) ≡ false
+    → None ≡ (put_all d None 1 old rows).refusal → new ≡ (put_all d None 1 old rows).rows
+    → insert world name rows None ≡ record { world = with_table world name (Some (sound d new)); rows = []; reply = Count (length rows) }
+insert_put world name d old rows new has few refusal leaves =
+    inserts_by world name d old rows false (record { rows = new; refusal = None }) has few (same_puts (put_all d None 1 old rows) new None leaves refusal)
+
+inserted-rows : (world : World) (name : List ℕ) (table : Table) (count : ℕ) (rows : List (List Value)) (refusal : Option Refusal) (plain : Bool) → table.plain ≡ plain
+    → (inserted world name table count (record { rows = rows; refusal = refusal })).rows ≡ []
+inserted-rows world name table count rows None plain is = refl
+inserted-rows world name table count rows (Some why) true is = rw is refl
+inserted-rows world name table count rows (Some why) false is = rw is refl
+
+insert_into-rows : (world : World) (name : List ℕ) (table : Table) (content : Content) (rows : List (List Value)) → (insert_into world name table content rows None).rows ≡ []
+insert_into-rows world name table Crashed rows = refl
+insert_into-rows world name table (Sound old) rows =
+    no_rows_unless (first_of (refused_where (nat_lt 65536 (length rows)) TooManyRows ∷ cond table.plain None None ∷ [])) world
+    (inserted world name table (length rows) (put_all table.definition None 1 old rows))
+    (inserted-rows world name table (length rows) (put_all table.definition None 1 old rows).rows (put_all table.definition None 1 old rows).refusal table.plain refl)
+
+insert_at-rows : (world : World) (name : List ℕ) (rows : List (List Value)) (found : Option Table) → (insert_at world name rows found).rows ≡ []
+insert_at-rows world name rows None = refl
+insert_at-rows world name rows (Some table) = insert_into-rows world name table table.content rows
+
+-- an insert tells no rows
+pub insert-rows : (world : World) (name : List ℕ) (rows : List (List Value)) → (insert world name rows None).rows ≡ []
+insert-rows world name rows = insert_at-rows world name rows (world name)
+
+-- ---- select
+
+abbrev select_at : World → List ℕ → List ℕ → Option Table → Outcome
+select_at world name key found = elim found [
+  | None ↦ refused world (NoTable name)
+  | Some table ↦ select_from world name table.definition table.content key
+]
+
+pub select_absent : (world : World) (name key : List ℕ) → world name ≡ None → select world name key ≡ refused world (NoTable name)
+select_absent world name key absent = ap (select_at world name key) absent
+
+first_or_none : (same : Bool) → cond same (Some 0) (option_suc None) ≡ cond (same || false) (Some 0) None
+first_or_none true = refl
+first_or_none false = refl
+
+number_of_one : (columns : List Column) (keys : List Key) (wanted : List ℕ) → are_number_keys columns keys ≡ true
+    → key_number keys wanted ≡ cond (list_any (λ key. same_name key.name wanted) keys) (Some 0) None
+number_of_one columns [] wanted is = absurd (cc)
+number_of_one columns (key ∷ []) wanted is = first_or_none (same_name key.name wanted)
+number_of_one columns (key ∷ other ∷ keys) wanted is = absurd (cc)
+
+-- a select by a key of this number, or by none
+abbrev selects : World → List ℕ → Definition → List (List Value) → List ℕ → Option ℕ → Outcome
+selects world name d rows key number = elim number [
+  | None ↦ refused world (NoKey key)
+  | Some n ↦ record { world = world; rows = sorted (key_cmp d n) rows; reply = Count (length rows) }
+]
+
+selects_by : (world : World) (name : List ℕ) (d : Definition) (rows : List (List Value)) (key : List ℕ) (has_key : Bool) → world name ≡ Some (sound d rows) → has_number_key d ≡ true
+    → has_key ≡ list_any (λ k. same_name k.name key) d.keys → select world name key ≡ selects world name d rows key (cond has_key (Some 0) None)
+selects_by world name d rows key has_key has is found =
+    ap (select_at world name key) has
+    ∙ ap (selects world name d rows key) (number_of_one d.columns d.keys key is ∙ ap (λ b. cond b (Some 0) None) (sym found))
+
+pub select_keyless : (world : World) (name : List ℕ) (d : Definition) (rows : List (List Value)) (key : List ℕ) → world name ≡ Some (sound d rows) → has_number_key d ≡ true
+    → false ≡ list_any (λ k. same_name k.name key) d.keys → select world name key ≡ refused world (NoKey key)
+select_keyless world name d rows key has is found = selects_by world name d rows key false has is found
+
+pub select_told : (world : World) (name : List ℕ) (d : Definition) (rows : List (List Value)) (key : List ℕ) → world name ≡ Some (sound d rows) → has_number_key d ≡ true
+    → true ≡ list_any (λ k. same_name k.name key) d.keys → sorted (key_cmp d 0) rows ≡ rows
+    → select world name key ≡ record { world = world; rows = rows; reply = Count (length rows) }
+select_told world name d rows key has is found rises =
+    selects_by world name d rows key true has is found ∙ ap (λ told. record { world = world; rows = told; reply = Count (length rows) }) rises

@@ -1,0 +1,23 @@
+use Rattle.std.proofs.Common.{◌≡◌, sym, ap, ◌∙◌}
+use Rattle.std.specs.Prelude.{false, Some}
+use Rattle.std.specs.Map.{values_of}
+use Rattle.aria_model.specs.World.{Sound, with_table}
+use Rattle.aria_model.specs.Step.{is_taken}
+use Rattle.aria_memory.specs.Worlds.{world_of}
+use Rattle.aria_memory.proofs.Worlds.{world_with, taken_is}
+use Rattle.aria_memory.proofs.Outcomes.{create_free}
+use Rattle.aria_memory.proofs.tables.Tables.create.Goals as goal
+
+pub returns-clause-creates : goal.returns-clause-creates
+returns-clause-creates c =
+    let d = c.args.definition in
+    let name = c.args.name in
+    let old = world_of c.args.self.now in
+    let free : is_taken (old name) ≡ false = taken_is _ ∙ sym c.contains_key.ensures ∙ c.if-contains_key.false in
+    let outcome = create_free old name d free in
+    record {
+      world = world_with c.args.self.now.by_name.entries c.insert.new.self.entries name _ c.in_ok-insert.ensures.updates.0
+          ∙ ap (λ (entries : _). with_table old name (Some (record { definition = d; plain = false; content = Sound (values_of entries) }))) c.new.ensures.empty
+          ∙ sym (ap (λ o. o.world) outcome);
+      reply = sym (ap (λ o. o.reply) outcome);
+    }

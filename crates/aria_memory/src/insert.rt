@@ -1,0 +1,73 @@
+//! Rows put into a table, all or none.
+
+ghost use Rattle.std.specs.Prelude.{◌≡◌, [], if◌then◌else◌, IfOk, OnErr, IsTrue};
+ghost use Rattle.std.specs.Option.{is_some};
+ghost use Rattle.std.specs.BTreeMap.{values};
+ghost use Rattle.std.specs.Ordering.{int_cmp};
+ghost use Rattle.aria_model.specs.Step.{put_all};
+ghost use Rattle.aria_memory.specs.Keyed.{has_number_key, are_keyed};
+ghost use Rattle.aria_memory.specs.Undone.{undone};
+
+use crate::rows::key_of_new;
+use aria_model::Refusal;
+use aria_value::{Definition, Row};
+use std::alloc::{AllocError, Global};
+use std::collections::BTreeMap;
+
+// Puts rows one after another, up to the first that is refused, and notes the key of each that it puts.
+fn put_all(
+    definition: &Definition,
+    rows: &mut BTreeMap<i64, Row>,
+    more: Vec<Row>,
+    put: &mut Vec<i64>,
+) -> Result<Option<Refusal>, AllocError>
+    requires number_key { IsTrue (has_number_key definition.now) }
+    requires keyed { IsTrue (are_keyed definition.now rows.old.entries) }
+    requires none { put.old.items ≡ [] }
+    ensures rows { IfOk result (λ _. values rows.new ≡ (put_all definition.now None 1 (values rows.old) more.items).rows) }
+    ensures refusal { IfOk result (λ refusal. refusal ≡ (put_all definition.now None 1 (values rows.old) more.items).refusal) }
+    ensures keyed_still { IsTrue (are_keyed definition.now rows.new.entries) }
+    ensures undo { undone int_cmp put.new.items rows.new.entries ≡ rows.old.entries }
+{
+    for row in more {
+        match key_of_new(definition, rows, &row) {
+            Err(why) => return Ok(Some(why)),
+            Ok(key) => {
+                put.push(key)?;
+                rows.insert(key, row)?;
+            }
+        }
+    }
+    Ok(None)
+}
+
+// Takes rows out by their keys, the last first.
+fn take_back(rows: &mut BTreeMap<i64, Row>, mut put: Vec<i64>)
+    ensures { rows.new.entries ≡ undone int_cmp put.items rows.old.entries }
+{
+    while let Some(key) = put.pop() {
+        rows.remove(&key);
+    }
+}
+
+/// Puts the rows, or none of them: then it answers the first refusal, or `Err` for want of memory.
+pub fn insert_all(
+    alloc: Global,
+    definition: &Definition,
+    rows: &mut BTreeMap<i64, Row>,
+    more: Vec<Row>,
+) -> Result<Option<Refusal>, AllocError>
+    requires number_key { IsTrue (has_number_key definition.now) }
+    requires keyed { IsTrue (are_keyed definition.now rows.old.entries) }
+    ensures refusal { IfOk result (λ refusal. refusal ≡ (put_all definition.now None 1 (values rows.old) more.items).refusal) }
+    ensures rows { IfOk result (λ refusal. values rows.new ≡ (if is_some refusal then values rows.old else (put_all definition.now None 1 (values rows.old) more.items).rows)) }
+    ensures err { OnErr result (rows.new.entries ≡ rows.old.entries) }
+    ensures keyed_still { IsTrue (are_keyed definition.now rows.new.entries) }
+{
+    let mut put = Vec::with_capacity(alloc, more.len())?;
+    let done = put_all(definition, rows, more, &mut put);
+    if !matches!(done, Ok(None)) {
+        take_back(rows, put);
+    }
+    done
+}
