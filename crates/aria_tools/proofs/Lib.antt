@@ -1,0 +1,8 @@
+pub mod Answering
+pub mod Scripts
+pub mod Doing
+pub mod Splitting
+pub mod Holding
+pub mod Feeding
+pub mod Pieces
+pub mod Runs

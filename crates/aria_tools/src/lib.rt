@@ -1,0 +1,15 @@
+//! The program `aria` as a call: `aria` carries out one command line over a host and an input.
+//!
+//! `WordList` holds the words of the command line and `Ended` says how the command ended. The one
+//! command is `run`, which executes the script that it reads from the input.
+#![tactic(auto)]
+
+mod answer;
+mod command;
+mod reading;
+mod session;
+mod stop;
+mod words;
+
+pub use command::{Ended, aria};
+pub use words::WordList;

@@ -1,0 +1,59 @@
+//! Why a run ends before its input does.
+
+ghost use Rattle.std.specs.Prelude.{◌≡◌, alloc_error};
+ghost use Rattle.aria_tools.specs.declared.stop.Stop.TheVariants as stops;
+ghost use Rattle.aria_tools.specs.Stops.{status_of, stop_of};
+
+use aria_host::Fault;
+use std::alloc::{AllocError, AllocFailed};
+
+/// Why a run ends before its input does.
+#[derive(Clone, Copy, Debug)]
+pub enum Stop {
+    Memory,
+    Input,
+    Tell,
+    TooLong,
+}
+
+impl Stop {
+    /// The status that the program ends with.
+    pub fn status(self) -> u8
+        ensures { result ≡ status_of self }
+    {
+        match self {
+            Stop::Memory => 3,
+            Stop::Input => 6,
+            Stop::Tell => 7,
+            Stop::TooLong => 8,
+        }
+    }
+}
+
+impl From<AllocError> for Stop {
+    ghost from_gives = { λ _ stop. stop ≡ stops.Memory };
+
+    fn from(_: AllocError) -> Stop {
+        Stop::Memory
+    }
+}
+
+impl<T: Drop> From<AllocFailed<T>> for Stop {
+    ghost from_gives = { λ _ stop. stop ≡ stops.Memory };
+
+    fn from(_: AllocFailed<T>) -> Stop {
+        Stop::Memory
+    }
+}
+
+impl From<Fault> for Stop {
+    ghost from_gives = { λ fault stop. stop ≡ stop_of fault };
+
+    fn from(fault: Fault) -> Stop {
+        match fault {
+            Fault::Memory(_) => Stop::Memory,
+            Fault::Input => Stop::Input,
+            Fault::Tell => Stop::Tell,
+        }
+    }
+}
