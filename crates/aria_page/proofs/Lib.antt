@@ -1,1 +1,4 @@
 pub mod Padding
+pub mod Fields
+pub mod Numbers
+pub mod StoredLsn

@@ -1,2 +1,5 @@
 pub mod Word
 pub mod NameFields
+pub mod Field
+pub mod Number
+pub mod Lsn

@@ -6,7 +6,14 @@
 #![tactic(auto)]
 
 mod list;
+mod lsn;
 mod name;
+mod number;
 
 pub use list::{Bytes, List};
-pub use name::{Name, begins_word, continues_word};
+pub use lsn::{LSN_BYTES, Lsn, lsn_at};
+pub use name::Name;
+pub use number::{
+    u8_at, u16_at, u16_bytes, u24_at, u24_bytes, u32_at, u32_bytes, u40_at, u40_bytes, u64_at,
+    u64_bytes,
+};

@@ -1,0 +1,46 @@
+ghost use Rattle.std.specs.Prelude.{◌≡◌, ◌↔◌, IsTrue};
+ghost use Rattle.aria_page.specs.Field.{Gives};
+ghost use Rattle.aria_page.specs.Lsn.{lsn_bytes, lsn_at, IsBefore};
+
+use crate::number::{u24_at, u24_bytes, u32_at, u32_bytes};
+
+/// The number of bytes that a log sequence number is stored in.
+pub const LSN_BYTES: usize = 7;
+
+/// A log sequence number: the number of a log file, below 2^24, and the offset of a byte in it, from 0.
+///
+/// They are ordered as their bytes stand in the log. File 0 with offset 0 means none.
+#[derive(Clone, Copy, Debug, PartialEq, Eq, PartialOrd, Ord)]
+pub struct Lsn {
+    pub file: u32,
+    pub offset: u32,
+}
+
+impl Lsn {
+    /// Whether this one stands before the other in the log.
+    pub fn is_before(self, other: Lsn) -> bool
+        ensures { IsTrue result ↔ IsBefore self other }
+    {
+        self < other
+    }
+
+    /// The bytes that it is stored in. Of a file number from 2^24 on they hold the lowest 3 bytes.
+    #[tactic(auto, unfolding(crate::specs::Lsn::lsn_bytes, crate::specs::Number::number))]
+    pub fn to_bytes(self) -> [u8; LSN_BYTES]
+        ensures { result ≡ lsn_bytes self }
+    {
+        let [a, b, c] = u24_bytes(self.file);
+        let [d, e, f, g] = u32_bytes(self.offset);
+        [a, b, c, d, e, f, g]
+    }
+}
+
+/// Reads a log sequence number, as `u32_at` reads a number.
+#[tactic(auto, unfolding(crate::specs::Lsn::lsn_at))]
+pub fn lsn_at(bytes: &[u8]) -> Option<(Lsn, &[u8])>
+    ensures { Gives (λ x. (x.0, x.1.now)) result (lsn_at bytes.now) }
+{
+    let (file, rest) = u24_at(bytes)?;
+    let (offset, rest) = u32_at(rest)?;
+    Some((Lsn { file, offset }, rest))
+}
