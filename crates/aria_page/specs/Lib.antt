@@ -3,3 +3,4 @@ pub mod NameFields
 pub mod Field
 pub mod Number
 pub mod Lsn
+pub mod Crc

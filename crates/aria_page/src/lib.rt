@@ -5,11 +5,13 @@
 //! the only failure is want of memory.
 #![tactic(auto)]
 
+mod crc;
 mod list;
 mod lsn;
 mod name;
 mod number;
 
+pub use crc::checksum;
 pub use list::{Bytes, List};
 pub use lsn::{LSN_BYTES, Lsn, lsn_at};
 pub use name::Name;
