@@ -2,3 +2,6 @@ pub mod Padding
 pub mod Fields
 pub mod Numbers
 pub mod StoredLsn
+pub mod CrcSteps
+pub mod CrcRows
+pub mod CrcBlock

@@ -1,16 +1,16 @@
--- CRC-32, bit by bit: the bits of the bytes, lowest first, divided by a polynomial over the bits.
-use Rattle.std.specs.Prelude.{ℕ, zero, suc, ◌/◌, ◌%◌, ◌==◌, bit_xor, List, [], ◌∷◌, if◌then◌else◌}
+-- CRC-32, bit by bit.
+use Rattle.std.specs.Prelude.{ℕ, zero, suc, ◌*◌, ◌/◌, ◌%◌, bit_xor, List, [], ◌∷◌}
 
--- the remainder one bit on: where a one falls out, the polynomial is added
+-- the remainder one bit on: its lowest bit falls out, and where that is 1 the polynomial is added
 unfoldable pub bit_on : ℕ → ℕ
-bit_on r = if r % 2 == 1 then bit_xor (r / 2) 0xEDB88320 else r / 2
+bit_on r = bit_xor (r / 2) (r % 2 * 0xEDB88320)
 
 -- the remainder n bits on
 unfoldable pub bits_on : ℕ → ℕ → ℕ
 bits_on zero r = r
 bits_on (suc n) r = bits_on n (bit_on r)
 
--- the remainder after these bytes, each taken in at the low end and eight bits on
+-- the remainder after these bytes: each is added at the low end, and goes eight bits on
 unfoldable pub crc_from : ℕ → List ℕ → ℕ
 crc_from r [] = r
 crc_from r (b ∷ bytes) = crc_from (bits_on 8 (bit_xor r b)) bytes

@@ -6,6 +6,7 @@
 #![tactic(auto)]
 
 mod crc;
+mod crc_table;
 mod list;
 mod lsn;
 mod name;
