@@ -3,8 +3,9 @@ use Rattle.std.proofs.Common.{◌≡◌, ℕ, zero, suc, ◌+◌, ◌*◌, ◌/�
 use Rattle.std.proofs.Math.Nat.{pow-suc}
 use Rattle.std.specs.Prelude.{bit_xor}
 use Rattle.std.specs.Int.Bits.{xor_assoc, xor_zero_r}
-use Rattle.std.proofs.lemmas.Nat.{xor_comm, xor_shr, xor_mod, xor_block}
-use Rattle.aria_page.specs.Crc.{bits_on, bit_on, crc_from}
+use Rattle.std.proofs.lemmas.Nat.{xor_comm, xor_shr, xor_mod, xor_block, xor_lt}
+use Rattle.aria_page.specs.Field.{AreBytes}
+use Rattle.aria_page.specs.Crc.{bits_on, bit_on, crc_from, checksum}
 
 -- no bit on, the remainder is as it was
 pub bits_on-none : (r : ℕ) → bits_on 0 r ≡ r
@@ -120,3 +121,24 @@ first_on after r b bytes lt =
     ap (bits_on (8 * after)) (crc_from-first r b bytes lt)
     ∙ bits_on-xor (8 * after) (bits_on (8 * (length bytes + 1)) alone) (crc_from (r / 256) bytes)
     ∙ ap (λ (x : ℕ). bit_xor x (bits_on (8 * after) (crc_from (r / 256) bytes))) (sym (bits_on-add (8 * (length bytes + 1)) (8 * after) alone) ∙ ap (λ (k : ℕ). bits_on k alone) places)
+
+-- ---- a remainder has 32 bits
+
+bit_on-lt : (r : ℕ) → r < 2 ^ 32 → bit_on r < 2 ^ 32
+unfolding bit_on
+bit_on-lt r lt = xor_lt 32 (r / 2) (r % 2 * 0xEDB88320) (omega arith) (omega arith)
+
+bits_on-lt : (n r : ℕ) → r < 2 ^ 32 → bits_on n r < 2 ^ 32
+unfolding bits_on
+bits_on-lt zero r lt = lt
+bits_on-lt (suc n) r lt = bits_on-lt n (bit_on r) (bit_on-lt r lt)
+
+crc_from-lt : (r : ℕ) (bytes : List ℕ) → AreBytes bytes → r < 2 ^ 32 → crc_from r bytes < 2 ^ 32
+unfolding crc_from
+crc_from-lt r [] fits lt = lt
+crc_from-lt r (b ∷ bytes) fits lt = crc_from-lt (bits_on 8 (bit_xor r b)) bytes (λ i. fits (suc i)) (bits_on-lt 8 (bit_xor r b) (xor_lt 32 r b lt (omega (arith, fits 0))))
+
+-- the checksum of bytes has 32 bits
+pub checksum-lt : (bytes : List ℕ) → AreBytes bytes → checksum bytes < 2 ^ 32
+unfolding checksum
+checksum-lt bytes fits = xor_lt 32 (crc_from 0xFFFFFFFF bytes) 0xFFFFFFFF (crc_from-lt 0xFFFFFFFF bytes fits (omega arith)) (omega arith)

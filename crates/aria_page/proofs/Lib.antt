@@ -5,3 +5,4 @@ pub mod StoredLsn
 pub mod CrcSteps
 pub mod CrcRows
 pub mod CrcBlock
+pub mod Pages

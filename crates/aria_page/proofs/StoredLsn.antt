@@ -1,13 +1,13 @@
 -- A log sequence number that is read is the one that was stored, and what was stored is read again.
-use Rattle.std.proofs.Common.{◌≡◌, ℕ, List, ◌++◌, length, Some, refl, ap, subst, ◌∙◌, append_assoc, arith}
-use Rattle.std.proofs.lemmas.List.{length-append}
+use Rattle.std.proofs.Common.{◌≡◌, ℕ, List, ◌++◌, length, drop, Some, refl, ap, subst, ◌∙◌, append_assoc, arith}
+use Rattle.std.proofs.lemmas.List.{drop_at, length-append}
 use Rattle.std.proofs.lemmas.Option.{same_Some}
 use Rattle.aria_page.specs.declared.lsn.Lsn.{Lsn}
 use Rattle.aria_page.specs.Field.{◌>>=◌, AreBytes, Takes}
-use Rattle.aria_page.specs.Number.{number, number_at}
-use Rattle.aria_page.specs.Lsn.{IsLsn, lsn_bytes, lsn_at}
+use Rattle.aria_page.specs.Number.{number, number_of, number_at}
+use Rattle.aria_page.specs.Lsn.{IsLsn, lsn_bytes, lsn_of, lsn_at}
 use Rattle.aria_page.proofs.Fields.{bind_some, Takes-then}
-use Rattle.aria_page.proofs.Numbers.{length-number, number_takes, number_again}
+use Rattle.aria_page.proofs.Numbers.{length-number, number_of-number, number_takes, number_again}
 
 -- a log sequence number takes 7 bytes
 pub length-lsn_bytes : (l : Lsn) → length (lsn_bytes l) ≡ 7
@@ -32,3 +32,13 @@ unfolding lsn_at lsn_bytes
 lsn_again l rest fits =
     ap lsn_at (append_assoc (number 3 l.file) (number 4 l.offset) rest)
     ∙ rw (number_again 3 l.file (number 4 l.offset ++ rest) fits.file, number_again 4 l.offset rest fits.offset) refl
+
+-- one that is stored is there
+pub lsn_of-lsn_bytes : (l : Lsn) (rest : List ℕ) → IsLsn l → lsn_of (lsn_bytes l ++ rest) ≡ l
+unfolding lsn_of lsn_bytes
+lsn_of-lsn_bytes l rest fits =
+    let whole : lsn_bytes l ++ rest ≡ number 3 l.file ++ (number 4 l.offset ++ rest) = append_assoc (number 3 l.file) (number 4 l.offset) rest in
+    let file : number_of 3 (lsn_bytes l ++ rest) ≡ l.file = ap (number_of 3) whole ∙ number_of-number 3 l.file (number 4 l.offset ++ rest) fits.file in
+    let behind : drop 3 (lsn_bytes l ++ rest) ≡ number 4 l.offset ++ rest = ap (drop 3) whole ∙ drop_at (number 3 l.file) (number 4 l.offset ++ rest) 3 (length-number 3 l.file) in
+    let offset : number_of 4 (drop 3 (lsn_bytes l ++ rest)) ≡ l.offset = ap (number_of 4) behind ∙ number_of-number 4 l.offset rest fits.offset in
+    λ i. record { file = file i; offset = offset i }

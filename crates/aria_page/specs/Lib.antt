@@ -4,3 +4,4 @@ pub mod Field
 pub mod Number
 pub mod Lsn
 pub mod Crc
+pub mod Page

@@ -1,8 +1,8 @@
 -- Log sequence numbers: how they are stored, and their order.
-use Rattle.std.specs.Prelude.{◌≡◌, ℕ, ◌<◌, ◌^◌, ◌⊎◌, List, ◌++◌, Option, Some}
+use Rattle.std.specs.Prelude.{◌≡◌, ℕ, ◌<◌, ◌^◌, ◌⊎◌, List, ◌++◌, drop, Option, Some}
 use Rattle.aria_page.specs.declared.lsn.Lsn.{Lsn}
 use Rattle.aria_page.specs.Field.{◌>>=◌}
-use Rattle.aria_page.specs.Number.{number, number_at}
+use Rattle.aria_page.specs.Number.{number, number_of, number_at}
 
 -- what can be stored: a file number of 3 bytes and an offset of 4
 pub record IsLsn (l : Lsn) : Type 0 where
@@ -12,6 +12,10 @@ pub record IsLsn (l : Lsn) : Type 0 where
 -- 3 bytes of file number, and 4 bytes of offset
 unfoldable pub lsn_bytes : Lsn → List ℕ
 lsn_bytes l = number 3 l.file ++ number 4 l.offset
+
+-- the one in the first 7 bytes
+unfoldable pub lsn_of : List ℕ → Lsn
+lsn_of bytes = record { file = number_of 3 bytes; offset = number_of 4 (drop 3 bytes) }
 
 -- a log sequence number and the bytes after it; nothing where the bytes run out
 unfoldable pub lsn_at : List ℕ → Option (Lsn × List ℕ)

@@ -1,8 +1,8 @@
-ghost use Rattle.std.specs.Prelude.{◌≡◌, ◌↔◌, IsTrue};
+ghost use Rattle.std.specs.Prelude.{◌≡◌, ◌≤◌, ◌↔◌, length, IsTrue};
 ghost use Rattle.aria_page.specs.Field.{Gives};
-ghost use Rattle.aria_page.specs.Lsn.{lsn_bytes, lsn_at, IsBefore};
+ghost use Rattle.aria_page.specs.Lsn.{IsLsn, lsn_bytes, lsn_of, lsn_at, IsBefore};
 
-use crate::number::{u24_at, u24_bytes, u32_at, u32_bytes};
+use crate::number::{u24_at, u24_bytes, u24_of, u32_at, u32_bytes, u32_of};
 
 /// The number of bytes that a log sequence number is stored in.
 pub const LSN_BYTES: usize = 7;
@@ -35,7 +35,20 @@ impl Lsn {
     }
 }
 
-/// Reads a log sequence number, as `u32_at` reads a number.
+/// The log sequence number in the first 7 bytes.
+#[tactic(auto, unfolding(crate::specs::Lsn::lsn_of))]
+pub fn lsn_of(bytes: &[u8]) -> Lsn
+    requires { 7 ≤ length bytes.now }
+    ensures value { result ≡ lsn_of bytes.now }
+    ensures fits { IsLsn result }
+{
+    Lsn {
+        file: u24_of(bytes),
+        offset: u32_of(&bytes[3..]),
+    }
+}
+
+/// The log sequence number in the first 7 bytes, and the bytes after it; `None` where the bytes run out.
 #[tactic(auto, unfolding(crate::specs::Lsn::lsn_at))]
 pub fn lsn_at(bytes: &[u8]) -> Option<(Lsn, &[u8])>
     ensures { Gives (λ x. (x.0, x.1.now)) result (lsn_at bytes.now) }

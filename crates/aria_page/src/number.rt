@@ -1,14 +1,62 @@
 //! Numbers as they are stored: a fixed number of bytes, the highest first (docs/FORMATS.md).
 //!
-//! A reader gives the number in front and the bytes after it, and `None` where the bytes run out.
+//! `u32_of` gives the number that stands in front, `u32_at` tests whether there is one and also gives the
+//! bytes after it, and `u32_bytes` stores a number; and so for the other sizes.
 
-ghost use Rattle.std.specs.Prelude.{◌≡◌};
+ghost use Rattle.std.specs.Prelude.{◌≡◌, ◌≤◌, ◌<◌, ◌^◌, length, IfSome};
 ghost use Rattle.aria_page.specs.Field.{Gives};
-ghost use Rattle.aria_page.specs.Number.{number, number_at};
+ghost use Rattle.aria_page.specs.Number.{number, number_of, number_at};
 
 use byteorder::{BigEndian, ByteOrder};
 
-/// Reads a number of 1 byte.
+/// The number in the first 2 bytes.
+#[tactic(auto, unfolding(crate::specs::Number::number_of))]
+pub fn u16_of(bytes: &[u8]) -> u16
+    requires { 2 ≤ length bytes.now }
+    ensures { result ≡ number_of 2 bytes.now }
+{
+    BigEndian::read_u16(bytes)
+}
+
+/// The number in the first 3 bytes.
+#[tactic(auto, unfolding(crate::specs::Number::number_of))]
+pub fn u24_of(bytes: &[u8]) -> u32
+    requires { 3 ≤ length bytes.now }
+    ensures value { result ≡ number_of 3 bytes.now }
+    ensures fits { result < 2 ^ 24 }
+{
+    BigEndian::read_u24(bytes)
+}
+
+/// The number in the first 4 bytes.
+#[tactic(auto, unfolding(crate::specs::Number::number_of))]
+pub fn u32_of(bytes: &[u8]) -> u32
+    requires { 4 ≤ length bytes.now }
+    ensures { result ≡ number_of 4 bytes.now }
+{
+    BigEndian::read_u32(bytes)
+}
+
+/// The number in the first 5 bytes.
+#[tactic(auto, unfolding(crate::specs::Number::number_of))]
+pub fn u40_of(bytes: &[u8]) -> u64
+    requires { 5 ≤ length bytes.now }
+    ensures value { result ≡ number_of 5 bytes.now }
+    ensures fits { result < 2 ^ 40 }
+{
+    BigEndian::read_uint(bytes, 5)
+}
+
+/// The number in the first 8 bytes.
+#[tactic(auto, unfolding(crate::specs::Number::number_of))]
+pub fn u64_of(bytes: &[u8]) -> u64
+    requires { 8 ≤ length bytes.now }
+    ensures { result ≡ number_of 8 bytes.now }
+{
+    BigEndian::read_u64(bytes)
+}
+
+/// The number in the first byte, and the bytes after it; `None` where the bytes run out.
 #[tactic(auto, unfolding(crate::specs::Number::number_at, crate::specs::Number::number_of))]
 pub fn u8_at(bytes: &[u8]) -> Option<(u8, &[u8])>
     ensures { Gives (λ x. (x.0, x.1.now)) result (number_at 1 bytes.now) }
@@ -19,62 +67,64 @@ pub fn u8_at(bytes: &[u8]) -> Option<(u8, &[u8])>
     Some((bytes[0], &bytes[1..]))
 }
 
-/// Reads a number of 2 bytes.
-#[tactic(auto, unfolding(crate::specs::Number::number_at, crate::specs::Number::number_of))]
+/// The number in the first 2 bytes, and the bytes after it; `None` where the bytes run out.
+#[tactic(auto, unfolding(crate::specs::Number::number_at))]
 pub fn u16_at(bytes: &[u8]) -> Option<(u16, &[u8])>
     ensures { Gives (λ x. (x.0, x.1.now)) result (number_at 2 bytes.now) }
 {
     if bytes.len() < 2 {
         return None;
     }
-    Some((BigEndian::read_u16(bytes), &bytes[2..]))
+    Some((u16_of(bytes), &bytes[2..]))
 }
 
-/// Reads a number of 3 bytes.
-#[tactic(auto, unfolding(crate::specs::Number::number_at, crate::specs::Number::number_of))]
+/// The number in the first 3 bytes, and the bytes after it; `None` where the bytes run out.
+#[tactic(auto, unfolding(crate::specs::Number::number_at))]
 pub fn u24_at(bytes: &[u8]) -> Option<(u32, &[u8])>
-    ensures { Gives (λ x. (x.0, x.1.now)) result (number_at 3 bytes.now) }
+    ensures value { Gives (λ x. (x.0, x.1.now)) result (number_at 3 bytes.now) }
+    ensures fits { IfSome result (λ x. x.0 < 2 ^ 24) }
 {
     if bytes.len() < 3 {
         return None;
     }
-    Some((BigEndian::read_u24(bytes), &bytes[3..]))
+    Some((u24_of(bytes), &bytes[3..]))
 }
 
-/// Reads a number of 4 bytes.
-#[tactic(auto, unfolding(crate::specs::Number::number_at, crate::specs::Number::number_of))]
+/// The number in the first 4 bytes, and the bytes after it; `None` where the bytes run out.
+#[tactic(auto, unfolding(crate::specs::Number::number_at))]
 pub fn u32_at(bytes: &[u8]) -> Option<(u32, &[u8])>
     ensures { Gives (λ x. (x.0, x.1.now)) result (number_at 4 bytes.now) }
 {
     if bytes.len() < 4 {
         return None;
     }
-    Some((BigEndian::read_u32(bytes), &bytes[4..]))
+    Some((u32_of(bytes), &bytes[4..]))
 }
 
-/// Reads a number of 5 bytes.
-#[tactic(auto, unfolding(crate::specs::Number::number_at, crate::specs::Number::number_of))]
+/// The number in the first 5 bytes, and the bytes after it; `None` where the bytes run out.
+#[tactic(auto, unfolding(crate::specs::Number::number_at))]
 pub fn u40_at(bytes: &[u8]) -> Option<(u64, &[u8])>
-    ensures { Gives (λ x. (x.0, x.1.now)) result (number_at 5 bytes.now) }
+    ensures value { Gives (λ x. (x.0, x.1.now)) result (number_at 5 bytes.now) }
+    ensures fits { IfSome result (λ x. x.0 < 2 ^ 40) }
 {
     if bytes.len() < 5 {
         return None;
     }
-    Some((BigEndian::read_uint(bytes, 5), &bytes[5..]))
+    Some((u40_of(bytes), &bytes[5..]))
 }
 
-/// Reads a number of 8 bytes.
-#[tactic(auto, unfolding(crate::specs::Number::number_at, crate::specs::Number::number_of))]
+/// The number in the first 8 bytes, and the bytes after it; `None` where the bytes run out.
+#[tactic(auto, unfolding(crate::specs::Number::number_at))]
 pub fn u64_at(bytes: &[u8]) -> Option<(u64, &[u8])>
     ensures { Gives (λ x. (x.0, x.1.now)) result (number_at 8 bytes.now) }
 {
     if bytes.len() < 8 {
         return None;
     }
-    Some((BigEndian::read_u64(bytes), &bytes[8..]))
+    Some((u64_of(bytes), &bytes[8..]))
 }
 
-/// The 2 bytes of a number.
+/// The 2 bytes that a number is stored in.
 #[tactic(auto, unfolding(crate::specs::Number::number))]
 pub fn u16_bytes(n: u16) -> [u8; 2]
     ensures { result ≡ number 2 n }
@@ -82,7 +132,7 @@ pub fn u16_bytes(n: u16) -> [u8; 2]
     n.to_be_bytes()
 }
 
-/// The 3 bytes of a number below 2^24; of another its lowest 3 bytes.
+/// The 3 bytes that a number below 2^24 is stored in; of another its lowest 3 bytes.
 #[tactic(auto, unfolding(crate::specs::Number::number))]
 pub fn u24_bytes(n: u32) -> [u8; 3]
     ensures { result ≡ number 3 n }
@@ -91,7 +141,7 @@ pub fn u24_bytes(n: u32) -> [u8; 3]
     [a, b, c]
 }
 
-/// The 4 bytes of a number.
+/// The 4 bytes that a number is stored in.
 #[tactic(auto, unfolding(crate::specs::Number::number))]
 pub fn u32_bytes(n: u32) -> [u8; 4]
     ensures { result ≡ number 4 n }
@@ -99,7 +149,7 @@ pub fn u32_bytes(n: u32) -> [u8; 4]
     n.to_be_bytes()
 }
 
-/// The 5 bytes of a number below 2^40; of another its lowest 5 bytes.
+/// The 5 bytes that a number below 2^40 is stored in; of another its lowest 5 bytes.
 #[tactic(auto, unfolding(crate::specs::Number::number))]
 pub fn u40_bytes(n: u64) -> [u8; 5]
     ensures { result ≡ number 5 n }
@@ -108,7 +158,7 @@ pub fn u40_bytes(n: u64) -> [u8; 5]
     [a, b, c, d, e]
 }
 
-/// The 8 bytes of a number.
+/// The 8 bytes that a number is stored in.
 #[tactic(auto, unfolding(crate::specs::Number::number))]
 pub fn u64_bytes(n: u64) -> [u8; 8]
     ensures { result ≡ number 8 n }
