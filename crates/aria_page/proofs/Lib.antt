@@ -6,3 +6,4 @@ pub mod CrcSteps
 pub mod CrcRows
 pub mod CrcBlock
 pub mod Pages
+pub mod Edits

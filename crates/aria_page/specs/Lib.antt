@@ -5,3 +5,4 @@ pub mod Number
 pub mod Lsn
 pub mod Crc
 pub mod Page
+pub mod Edit

@@ -17,6 +17,10 @@ zero_page = replicate 8192 0
 unfoldable pub page_body : List ℕ → List ℕ
 page_body page = drop 11 page
 
+-- the page with another body
+unfoldable pub with_body : List ℕ → List ℕ → List ℕ
+with_body body page = take 11 page ++ body
+
 -- the log sequence number
 unfoldable pub page_lsn : List ℕ → Lsn
 page_lsn page = lsn_of (drop 4 page)

@@ -1,19 +1,29 @@
-//! The small types that every layer speaks of: lists and bytes, and names.
+//! The types that every layer speaks of: bytes, numbers, names, pages and their edits.
 //!
 //! `List<T>` is a growing list, `Bytes` a list of bytes, and `Name` the name of a table, a key or a
-//! column, kept in place. Contracts see each as a list. Nothing here reaches outside the process, and
-//! the only failure is want of memory.
+//! column, kept in place. A `Page` has 8192 bytes: a checksum, a log sequence number (`Lsn`) and a body,
+//! which `apply` changes by an `Edit`. `u32_at`, `lsn_at` and their kin read what formats store, from left to
+//! right. The rest are the small types of places and log groups.
+//!
+//! Contracts see a list, a name and a page as the list of their items. Each call changes exactly what its
+//! clauses name. Nothing here reaches outside the process, and the only failure is want of memory, in the
+//! calls that take an allocator or make a list longer.
 #![tactic(auto)]
 
 mod crc;
 mod crc_table;
+mod edit;
+mod group;
 mod list;
 mod lsn;
 mod name;
 mod number;
 mod page;
+mod place;
 
 pub use crc::checksum;
+pub use edit::{Edit, EditFault, apply};
+pub use group::{Last, RedoKind};
 pub use list::{Bytes, List};
 pub use lsn::{LSN_BYTES, Lsn, lsn_at, lsn_of};
 pub use name::Name;
@@ -22,3 +32,7 @@ pub use number::{
     u40_bytes, u40_of, u64_at, u64_bytes, u64_of,
 };
 pub use page::{BODY_AT, BODY_BYTES, PAGE_BYTES, Page, SUM_BYTES};
+pub use place::{Part, Place, Places};
+
+#[cfg(test)]
+mod tests;

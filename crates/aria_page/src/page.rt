@@ -1,4 +1,4 @@
-ghost use Rattle.std.specs.Prelude.{◌≡◌, ◌+◌, ◌≤◌, ◌↔◌, length, drop, IsTrue, ◌==◌};
+ghost use Rattle.std.specs.Prelude.{◌≡◌, ◌+◌, ◌≤◌, ◌↔◌, length, take, drop, IsTrue, ◌==◌};
 ghost use Rattle.std.specs.List.{list_all};
 ghost use Rattle.aria_page.specs.Lsn.{IsLsn};
 ghost use Rattle.aria_page.specs.Page.{with_bytes, zero_page, page_body, page_lsn, Sums, IsSound, summed, sealed};
@@ -79,9 +79,21 @@ impl Page {
     pub fn put(&mut self, at: usize, bytes: &[u8])
         requires { at + length bytes.now ≤ 8192 }
         ensures bytes { self.new ≡ with_bytes at bytes.now self.old }
+        ensures len_before { length self.old ≡ 8192 }
         ensures len { length self.new ≡ 8192 }
     {
         self.bytes[at..at + bytes.len()].copy_from_slice(bytes);
+    }
+
+    /// Copies the bytes from a place, as they stand, to another. Nothing else changes.
+    pub fn copy_within(&mut self, at: usize, len: usize, to: usize)
+        requires from { at + len ≤ 8192 }
+        requires to { to + len ≤ 8192 }
+        ensures bytes { self.new ≡ with_bytes to (take len (drop at self.old)) self.old }
+        ensures len_before { length self.old ≡ 8192 }
+        ensures len { length self.new ≡ 8192 }
+    {
+        self.bytes.copy_within(at..at + len, to);
     }
 
     /// The body of the page.

@@ -1,0 +1,17 @@
+-- Edits of a page's body.
+use Rattle.std.specs.Prelude.{◌≡◌, ℕ, ◌+◌, ◌≤◌, List, length, take, drop}
+use Rattle.aria_page.specs.declared.edit.Edit.{Edit}
+use Rattle.aria_page.specs.declared.edit.Edit.TheVariants.{Set, Shift, Whole}
+use Rattle.aria_page.specs.Page.{with_bytes}
+
+-- the edit stays within a body of 8181 bytes
+abbrev pub IsWithin : Edit → Type 0
+IsWithin (Set at bytes) = at + length bytes ≤ 8181
+IsWithin (Shift at len to) = (at + len ≤ 8181) × (to + len ≤ 8181)
+IsWithin (Whole body) = length body ≡ 8181
+
+-- the body after the edit
+unfoldable pub edited : Edit → List ℕ → List ℕ
+edited (Set at bytes) body = with_bytes at bytes body
+edited (Shift at len to) body = with_bytes to (take len (drop at body)) body
+edited (Whole new) body = new
