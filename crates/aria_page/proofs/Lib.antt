@@ -7,3 +7,4 @@ pub mod CrcRows
 pub mod CrcBlock
 pub mod Pages
 pub mod Edits
+pub mod Texts

@@ -1,9 +1,9 @@
 -- The parts of a page, and what becomes of them.
-use Rattle.std.proofs.Common.{◌≡◌, ℕ, zero, suc, ◌+◌, ◌^◌, ◌<◌, ◌≤◌, Bool, true, false, List, [], ◌∷◌, ◌++◌, length, take, drop, replicate, refl, sym, ap, subst, ◌∙◌, arith, inl, inr}
+use Rattle.std.proofs.Common.{◌≡◌, ℕ, zero, suc, ◌+◌, ◌-◌, ◌^◌, ◌<◌, ◌≤◌, Bool, true, false, List, [], ◌∷◌, ◌++◌, length, take, drop, replicate, refl, sym, ap, subst, ◌∙◌, arith, inl, inr}
 use Rattle.std.specs.Prelude.{IsTrue, ◌==◌, ◌&&◌}
 use Rattle.std.specs.List.{list_all}
 use Rattle.std.proofs.lemmas.Bool.{eqb-true}
-use Rattle.std.proofs.lemmas.List.{drop_at, length-append, drop-drop, length-drop, length-take}
+use Rattle.std.proofs.lemmas.List.{drop_at, length-append, drop-drop, take-append-le, take-take, length-drop, length-take}
 use Rattle.aria_page.specs.declared.lsn.Lsn.{Lsn}
 use Rattle.aria_page.specs.Number.{number}
 use Rattle.aria_page.specs.Lsn.{IsLsn, lsn_bytes, lsn_of}
@@ -23,10 +23,33 @@ with_bytes-front : (n : ℕ) (bytes old : List ℕ) → length bytes ≡ n → w
 unfolding with_bytes
 with_bytes-front n bytes old len = let e : 0 + length bytes ≡ n = omega arith in rw e refl
 
--- what stands behind a place where bytes were put
-drop-with_bytes : (at n : ℕ) (bytes old : List ℕ) → at ≤ length old → at + length bytes ≡ n → drop at (with_bytes at bytes old) ≡ bytes ++ drop n old
+-- what stands before a place where bytes were put is as it was
+pub take-with_bytes : (n at : ℕ) (bytes old : List ℕ) → n ≤ at → at ≤ length old → take n (with_bytes at bytes old) ≡ take n old
+unfolding with_bytes
+take-with_bytes n at bytes old before low =
+    take-append-le n (take at old) (bytes ++ drop (at + length bytes) old) (omega (arith, length-take at old)) ∙ take-take n at old before
+
+-- the bytes that were put stand there, and behind them what stood there
+pub drop-with_bytes : (at n : ℕ) (bytes old : List ℕ) → at ≤ length old → at + length bytes ≡ n → drop at (with_bytes at bytes old) ≡ bytes ++ drop n old
 unfolding with_bytes
 drop-with_bytes at n bytes old low e = rw e (drop_at (take at old) (bytes ++ drop n old) at (omega (arith, length-take at old)))
+
+-- what stands behind the bytes that were put is as it was
+pub drop-with_bytes-behind : (n at : ℕ) (bytes old : List ℕ) → at + length bytes ≤ n → at ≤ length old → drop n (with_bytes at bytes old) ≡ drop n old
+drop-with_bytes-behind n at bytes old behind low =
+    let size : ℕ = length bytes in
+    let left : ℕ = n - (at + size) in
+    let whole : List ℕ = with_bytes at bytes old in
+    let last : List ℕ = drop (at + size) old in
+    let place : n ≡ at + (size + left) = omega arith in
+    let end : at + size + left ≡ n = omega arith in
+    ap (λ (k : ℕ). drop k whole) place
+    ∙ sym (drop-drop (size + left) at whole)
+    ∙ ap (drop (size + left)) (drop-with_bytes at (at + size) bytes old low refl)
+    ∙ sym (drop-drop left size (bytes ++ last))
+    ∙ ap (drop left) (drop_at bytes last size refl)
+    ∙ drop-drop left (at + size) old
+    ∙ ap (λ (k : ℕ). drop k old) end
 
 -- the checksum put in its place
 pub summed_is : (page : List ℕ) → with_bytes 0 (number 4 (checksum (drop 4 page))) page ≡ summed page

@@ -6,3 +6,4 @@ pub mod Lsn
 pub mod Crc
 pub mod Page
 pub mod Edit
+pub mod Text

@@ -20,6 +20,7 @@ mod name;
 mod number;
 mod page;
 mod place;
+mod text;
 
 pub use crc::checksum;
 pub use edit::{Edit, EditFault, apply};
@@ -33,6 +34,7 @@ pub use number::{
 };
 pub use page::{BODY_AT, BODY_BYTES, PAGE_BYTES, Page, SUM_BYTES};
 pub use place::{Part, Place, Places};
+pub use text::{bytes_at, name_at};
 
 #[cfg(test)]
 mod tests;

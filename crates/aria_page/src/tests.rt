@@ -93,5 +93,7 @@ fn a_name_is_a_word_of_at_most_64_bytes(rt: HostRuntime) -> Result<(), Fail> {
     assert!(rt; Name::read(&[b'a'; 65]).is_none());
     let name = Name::read(b"a1_").ok_or("a word is a name")?;
     assert_eq!(rt; name.as_slice(), b"a1_".as_slice());
+    assert!(rt; matches!(name_at(b"\x03a1_x"), Some((found, b"x")) if found == name));
+    assert!(rt; name_at(b"\x04a1_").is_none());
     Ok(())
 }
