@@ -27,7 +27,7 @@ pub use edit::{Edit, EditFault, apply};
 pub use group::{Last, RedoKind};
 pub use list::{Bytes, List};
 pub use lsn::{LSN_BYTES, Lsn, lsn_at, lsn_of};
-pub use name::Name;
+pub use name::{Name, begins_word, continues_word};
 pub use number::{
     u8_at, u16_at, u16_bytes, u16_of, u24_at, u24_bytes, u24_of, u32_at, u32_bytes, u32_of, u40_at,
     u40_bytes, u40_of, u64_at, u64_bytes, u64_of,
