@@ -1,9 +1,7 @@
 -- How the lines of bytes go on where bytes are added behind.
-use Rattle.std.proofs.Common.{◌≡◌, ℕ, Bool, true, false, ◌==◌, if◌then◌else◌, List, [], ◌∷◌, ◌++◌, refl, sym, ap, ◌∙◌, append_assoc}
+use Rattle.std.proofs.Common.{◌≡◌, ℕ, Bool, true, false, ◌==◌, if◌then◌else◌, List, [], ◌∷◌, ◌++◌, refl, ap}
 use Rattle.std.specs.List.{list_any}
 use Rattle.std.proofs.lemmas.Bool.{or_parts}
-use Rattle.std.proofs.lemmas.List.{append-nil}
-use Rattle.std.proofs.lemmas.List.Folds.{list_any-append}
 use Rattle.aria_model.specs.Script.{lines_of, onto_line, ended_lines, onto_ended}
 
 -- whether bytes have an LF
@@ -47,55 +45,6 @@ ended_lines-rest [] h = refl
 ended_lines-rest (b ∷ bs) h =
     let parts = or_parts (b == 10) (has_line_end bs) h in
     rw (parts.0, ended_lines-rest bs parts.1)
-
--- The bytes are these ended lines and a rest without LF, whatever follows.
-pub record Splits (bytes : List ℕ) (done : List (List ℕ)) (rest : List ℕ) : Type 0 where
-  pub no_line_end : has_line_end rest ≡ false
-  pub lines : (more : List ℕ) → lines_of (bytes ++ more) ≡ done ++ lines_of (rest ++ more)
-  pub ended : (more : List ℕ) → ended_lines (bytes ++ more) ≡ done ++ ended_lines (rest ++ more)
-
--- no bytes
-pub Splits-nil : Splits [] [] []
-Splits-nil = record { no_line_end = refl; lines = λ more. refl; ended = λ more. refl }
-
--- a piece without LF joins the rest
-pub Splits-piece : {bytes : List ℕ} {done : List (List ℕ)} {rest : List ℕ} (piece : List ℕ)
-    → Splits bytes done rest → has_line_end piece ≡ false → Splits (bytes ++ piece) done (rest ++ piece)
-Splits-piece {bytes} {done} {rest} piece s none = record {
-  no_line_end = list_any-append (λ b. b == 10) rest piece ∙ rw (s.no_line_end, none);
-  lines = λ more. rw (append_assoc bytes piece more, append_assoc rest piece more) (s.lines (piece ++ more));
-  ended = λ more. rw (append_assoc bytes piece more, append_assoc rest piece more) (s.ended (piece ++ more));
-}
-
--- an LF ends the rest
-pub Splits-line_end : {bytes : List ℕ} {done : List (List ℕ)} {rest : List ℕ}
-    → Splits bytes done rest → Splits (bytes ++ 10 ∷ []) (done ++ rest ∷ []) []
-Splits-line_end {bytes} {done} {rest} s = record {
-  no_line_end = refl;
-  lines = λ more. ap lines_of (append_assoc bytes (10 ∷ []) more) ∙ s.lines (10 ∷ more)
-      ∙ ap (λ (ls : List (List ℕ)). done ++ ls) (lines_of-line rest more s.no_line_end)
-      ∙ sym (append_assoc done (rest ∷ []) (lines_of more));
-  ended = λ more. ap ended_lines (append_assoc bytes (10 ∷ []) more) ∙ s.ended (10 ∷ more)
-      ∙ ap (λ (ls : List (List ℕ)). done ++ ls) (ended_lines-line rest more s.no_line_end)
-      ∙ sym (append_assoc done (rest ∷ []) (ended_lines more));
-}
-
--- where no more bytes follow, the rest is the last line
-pub Splits-lines_of : {bytes : List ℕ} {done : List (List ℕ)} {rest : List ℕ}
-    → Splits bytes done rest → lines_of bytes ≡ done ++ last_line rest
-Splits-lines_of {bytes} {done} {rest} s =
-    ap lines_of (sym (append-nil bytes)) ∙ s.lines []
-    ∙ ap (λ (bs : List ℕ). done ++ lines_of bs) (append-nil rest)
-    ∙ ap (λ (ls : List (List ℕ)). done ++ ls) (lines_of-rest rest s.no_line_end)
-
--- and it isn't ended
-pub Splits-ended_lines : {bytes : List ℕ} {done : List (List ℕ)} {rest : List ℕ}
-    → Splits bytes done rest → ended_lines bytes ≡ done
-Splits-ended_lines {bytes} {done} {rest} s =
-    ap ended_lines (sym (append-nil bytes)) ∙ s.ended []
-    ∙ ap (λ (bs : List ℕ). done ++ ended_lines bs) (append-nil rest)
-    ∙ ap (λ (ls : List (List ℕ)). done ++ ls) (ended_lines-rest rest s.no_line_end)
-    ∙ append-nil done
 
 -- lines begin with others, and still do with a byte before them
 front_onto : (b : ℕ) (lines front : List (List ℕ)) → (others : List (List ℕ)) × (lines ≡ front ++ others)

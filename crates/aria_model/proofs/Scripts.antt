@@ -1,16 +1,13 @@
 -- How a script goes on where lines are added behind.
-use Rattle.std.proofs.Common.{◌≡◌, ℕ, suc, ◌+◌, Bool, true, false, not, ◌||◌, if◌then◌else◌, List, [], ◌∷◌, ◌++◌, take, length, None, sym, ap, ◌∙◌, zero-add, suc-add}
+use Rattle.std.proofs.Common.{◌≡◌, ℕ, suc, ◌+◌, Bool, not, ◌||◌, List, [], ◌∷◌, ◌++◌, length, sym, ap, ◌∙◌, zero-add, suc-add}
 use Rattle.std.specs.List.{flat_map, list_any}
-use Rattle.std.proofs.Math.Seq.{take-append_seam}
-use Rattle.std.proofs.Math.Bool.{or-false}
 use Rattle.std.proofs.lemmas.Grind.{flat_map-append}
-use Rattle.std.proofs.lemmas.List.{append-nil}
 use Rattle.std.proofs.lemmas.List.Elements.{filter-append}
 use Rattle.std.proofs.lemmas.List.Folds.{list_any-append}
 use Rattle.aria_model.specs.World.{World}
 use Rattle.aria_model.specs.Grammar.{is_blank_line}
 use Rattle.aria_model.specs.Step.{Outcome, step}
-use Rattle.aria_model.specs.Script.{statements, Exceptions, no_exception, outcomes, world_after, outcome_text, told, is_refused, any_refused}
+use Rattle.aria_model.specs.Script.{statements, Exceptions, outcomes, world_after, outcome_text, told, is_refused, any_refused}
 
 -- the exceptions of the statements from the nth on, counted from 0
 abbrev pub from_nth : Exceptions → ℕ → Exceptions
@@ -75,71 +72,3 @@ any_refused-append world a b exceptions =
     ap (λ (lines : List (List ℕ)). list_any refuses (outcomes world lines exceptions)) (statements-append a b)
     ∙ ap (list_any refuses) (outcomes-append world (statements a) (statements b) exceptions)
     ∙ list_any-append refuses (outcomes world (statements a) exceptions) (outcomes (left_by world a exceptions) (statements b) later)
-
--- a blank line is no statement
-pub statements-blank : (lines : List (List ℕ)) (line : List ℕ) → is_blank_line line ≡ true → statements (lines ++ line ∷ []) ≡ statements lines
-statements-blank lines line blank =
-    statements-append lines (line ∷ [])
-    ∙ ap (λ (b : Bool). statements lines ++ (if not b then line ∷ [] else [])) blank
-    ∙ append-nil (statements lines)
-
--- any other line is one
-pub statements-line : (lines : List (List ℕ)) (line : List ℕ) → is_blank_line line ≡ false → statements (lines ++ line ∷ []) ≡ statements lines ++ line ∷ []
-statements-line lines line blank =
-    statements-append lines (line ∷ [])
-    ∙ ap (λ (b : Bool). statements lines ++ (if not b then line ∷ [] else [])) blank
-
--- A blank line does nothing.
-pub left_by-blank : (world : World) (lines : List (List ℕ)) (line : List ℕ) (exceptions : Exceptions)
-    → is_blank_line line ≡ true → left_by world (lines ++ line ∷ []) exceptions ≡ left_by world lines exceptions
-left_by-blank world lines line exceptions blank =
-    ap (λ (ls : List (List ℕ)). world_after world ls exceptions) (statements-blank lines line blank)
-
--- It tells nothing.
-pub told-blank : (world : World) (lines : List (List ℕ)) (line : List ℕ) (exceptions : Exceptions)
-    → is_blank_line line ≡ true → told world (lines ++ line ∷ []) exceptions ≡ told world lines exceptions
-told-blank world lines line exceptions blank =
-    ap (λ (ls : List (List ℕ)). flat_map outcome_text (outcomes world ls exceptions)) (statements-blank lines line blank)
-
--- It is not refused.
-pub any_refused-blank : (world : World) (lines : List (List ℕ)) (line : List ℕ) (exceptions : Exceptions)
-    → is_blank_line line ≡ true → any_refused world (lines ++ line ∷ []) exceptions ≡ any_refused world lines exceptions
-any_refused-blank world lines line exceptions blank =
-    ap (λ (ls : List (List ℕ)). list_any (λ outcome. is_refused outcome.reply) (outcomes world ls exceptions)) (statements-blank lines line blank)
-
--- the outcome of a line behind these, where no statement meets an exception
-abbrev pub outcome_of : World → List (List ℕ) → List ℕ → Outcome
-outcome_of world lines line = step (left_by world lines no_exception) line None
-
--- A line that isn't blank leaves the tables of its outcome.
-pub left_by-line : (world : World) (lines : List (List ℕ)) (line : List ℕ)
-    → is_blank_line line ≡ false → left_by world (lines ++ line ∷ []) no_exception ≡ (outcome_of world lines line).world
-left_by-line world lines line blank =
-    ap (λ (ls : List (List ℕ)). world_after world ls no_exception) (statements-line lines line blank)
-    ∙ world_after-append world (statements lines) (line ∷ []) no_exception
-
--- It tells its outcome behind what was told.
-pub told-line : (world : World) (lines : List (List ℕ)) (line : List ℕ)
-    → is_blank_line line ≡ false → told world (lines ++ line ∷ []) no_exception ≡ told world lines no_exception ++ outcome_text (outcome_of world lines line)
-told-line world lines line blank =
-    ap (λ (ls : List (List ℕ)). flat_map outcome_text (outcomes world ls no_exception)) (statements-line lines line blank)
-    ∙ ap (flat_map outcome_text) (outcomes-append world (statements lines) (line ∷ []) no_exception)
-    ∙ flat_map-append outcome_text (outcomes world (statements lines) no_exception) (outcome_of world lines line ∷ [])
-    ∙ ap (λ (bs : List ℕ). told world lines no_exception ++ bs) (append-nil (outcome_text (outcome_of world lines line)))
-
--- Its reply is one more that may be a refusal.
-pub any_refused-line : (world : World) (lines : List (List ℕ)) (line : List ℕ)
-    → is_blank_line line ≡ false → any_refused world (lines ++ line ∷ []) no_exception ≡ (any_refused world lines no_exception || is_refused (outcome_of world lines line).reply)
-any_refused-line world lines line blank =
-    let refuses : Outcome → Bool = λ outcome. is_refused outcome.reply in
-    ap (λ (ls : List (List ℕ)). list_any refuses (outcomes world ls no_exception)) (statements-line lines line blank)
-    ∙ ap (list_any refuses) (outcomes-append world (statements lines) (line ∷ []) no_exception)
-    ∙ list_any-append refuses (outcomes world (statements lines) no_exception) (outcome_of world lines line ∷ [])
-    ∙ ap (λ (b : Bool). any_refused world lines no_exception || b) (or-false (is_refused (outcome_of world lines line).reply))
-
--- What the first lines of a script tell is the first part of what it tells.
-pub told-front : (world : World) (front others : List (List ℕ)) (exceptions : Exceptions)
-    → told world front exceptions ≡ take (length (told world front exceptions)) (told world (front ++ others) exceptions)
-told-front world front others exceptions =
-    sym (take-append_seam (told world front exceptions) (told (left_by world front exceptions) others (from_nth exceptions (length (statements front)))))
-    ∙ ap (take (length (told world front exceptions))) (sym (told-append world front others exceptions))

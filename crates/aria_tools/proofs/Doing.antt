@@ -4,16 +4,17 @@ use Rattle.std.proofs.lemmas.List.{append-nil, append_assoc, take-append-le, tak
 use Rattle.std.proofs.Math.Seq.{take-append-add, take-length}
 use Rattle.std.proofs.Math.Bool.{or_assoc, or-false}
 use Rattle.std.specs.Prelude.{not}
+use Rattle.std.specs.List.{flat_map, list_any}
 use Rattle.aria_host.specs.State.{State}
 use Rattle.aria_model.specs.World.{World}
-use Rattle.aria_model.specs.Script.{statements, world_after, outcomes, told, any_refused, no_exception}
+use Rattle.aria_model.specs.Script.{statements, world_after, outcomes, told, any_refused, no_exception, is_refused, outcome_text}
 use Rattle.aria_tools.specs.Turns.{Does, TellsPart}
 use Rattle.aria_model.specs.Grammar.{read_line, is_blank_line}
 use Rattle.aria_model.specs.Step.{Outcome, answered, built_reply, step}
 use Rattle.aria_model.specs.declared.statement.Statement.{Statement}
 use Rattle.aria_model.specs.declared.refusal.Refusal.{Refusal}
 use Rattle.aria_tools.specs.Held.{clipped}
-use Rattle.aria_tools.proofs.Scripts.{told-append, any_refused-append, script_world-append, text_of, refused_of}
+use Rattle.aria_model.proofs.Scripts.{told-append, any_refused-append, left_by-append}
 use Rattle.aria_tools.proofs.Splitting.{read_line-clipped, is_blank_line-clipped}
 
 pub does_nothing : (tells : Bool) (w : World) (was : Bool) (s : State) → Does tells [] w w was was s s
@@ -22,13 +23,13 @@ does_nothing tells w was s = record { world = refl; refused = sym (or-false was)
 pub does_more : (tells : Bool) (a b : List (List ℕ)) (w0 w1 w2 : World) (r0 r1 r2 : Bool) (s0 s1 s2 : State)
     → Does tells a w0 w1 r0 r1 s0 s1 → Does tells b w1 w2 r1 r2 s1 s2 → Does tells (a ++ b) w0 w2 r0 r2 s0 s2
 does_more tells a b w0 w1 w2 r0 r1 r2 s0 s1 s2 first then = record {
-  world = then.world ∙ ap (λ (w : World). world_after w (statements b) no_exception) first.world ∙ sym (script_world-append w0 a b);
+  world = then.world ∙ ap (λ (w : World). world_after w (statements b) no_exception) first.world ∙ sym (left_by-append w0 a b no_exception);
   refused = then.refused ∙ ap (λ (r : Bool). r || any_refused w1 b no_exception) first.refused
       ∙ ap (λ (w : World). (r0 || any_refused w0 a no_exception) || any_refused w b no_exception) first.world
-      ∙ or_assoc r0 _ _ ∙ ap (λ (r : Bool). r0 || r) (sym (any_refused-append w0 a b));
+      ∙ or_assoc r0 _ _ ∙ ap (λ (r : Bool). r0 || r) (sym (any_refused-append w0 a b no_exception));
   out = λ h. then.out h ∙ ap (λ (o : List ℕ). o ++ told w1 b no_exception) (first.out h)
       ∙ ap (λ (w : World). (s0.out ++ told w0 a no_exception) ++ told w b no_exception) first.world
-      ∙ append_assoc s0.out _ _ ∙ ap (λ (o : List ℕ). s0.out ++ o) (sym (told-append w0 a b));
+      ∙ append_assoc s0.out _ _ ∙ ap (λ (o : List ℕ). s0.out ++ o) (sym (told-append w0 a b no_exception));
   err = λ h. then.err h ∙ first.err h;
 }
 
@@ -38,7 +39,7 @@ tells_part_more tells a b w s0 s1 part = record {
   out = λ h. let n = (part.out h).0 in let all = told w a no_exception in let low : min n (length all) ≤ length all = omega arith in (
     min n (length all),
     (part.out h).1 ∙ ap (λ (o : List ℕ). s0.out ++ o) (sym (take_min n all) ∙ sym (take-append-le (min n (length all)) all _ low)
-        ∙ ap (take (min n (length all))) (sym (told-append w a b))),
+        ∙ ap (take (min n (length all))) (sym (told-append w a b no_exception))),
   );
   err = part.err;
 }
@@ -52,7 +53,7 @@ does_then_part tells a b w0 w1 r0 r1 s0 s1 s2 first part = record {
         ∙ ap (λ (w : World). (s0.out ++ all) ++ take n (told w b no_exception)) first.world
         ∙ append_assoc s0.out _ _
         ∙ ap (λ (o : List ℕ). s0.out ++ o) (sym (take-append-add all (told (world_after w0 (statements a) no_exception) b no_exception) n)
-        ∙ ap (take (length all + n)) (sym (told-append w0 a b))),
+        ∙ ap (take (length all + n)) (sym (told-append w0 a b no_exception))),
   );
   err = λ h. part.err h ∙ first.err h;
 }
@@ -67,6 +68,13 @@ does_part tells a w0 w1 r0 r1 s0 s1 does = record {
 -- nothing was told
 pub tells_nothing : (tells : Bool) (a : List (List ℕ)) (w : World) (s : State) → TellsPart tells a w s s
 tells_nothing tells a w s = record { out = λ h. (0, sym (append-nil s.out)); err = λ h. refl }
+
+-- what outcomes tell, and whether one is a refusal
+abbrev text_of : List Outcome → List ℕ
+text_of os = flat_map outcome_text os
+
+abbrev refused_of : List Outcome → Bool
+refused_of os = list_any (λ (o : Outcome). is_refused o.reply) os
 
 -- the outcomes of one line
 abbrev one_outcome : Bool → Outcome → List Outcome

@@ -10,7 +10,8 @@ use Rattle.aria_model.specs.Script.{lines_of, ended_lines}
 use Rattle.aria_tools.specs.Held.{clipped, CutsLine, Splits, is_lf}
 use Rattle.aria_tools.specs.Turns.{Does, TellsPart}
 use Rattle.aria_tools.specs.Pieces.{Fed}
-use Rattle.aria_tools.proofs.Splitting.{splits_rest, splits_line, splits_more, ended_lines-line, ended_lines-rest, lines_of-rest}
+use Rattle.aria_tools.proofs.Splitting.{splits_rest, splits_line, splits_more}
+use Rattle.aria_model.proofs.Lines.{ended_lines-line, ended_lines-rest, lines_of-rest}
 use Rattle.aria_tools.proofs.Doing.{does_nothing, does_more, does_part, does_then_part, tells_part_more}
 
 no_lf_step : (is more : Bool) → (is ≡ true → ⊥) → more ≡ false → (is || more) ≡ false
@@ -121,7 +122,7 @@ clipped_none rest none = ap lines_of (taken_none 1048577 rest (lit< tt) none)
 
 pub clipped_some : (rest : List ℕ) → list_any is_lf rest ≡ false → (length (clipped rest) ≡ 0 → ⊥) → lines_of rest ≡ (rest ++ []) ∷ []
 clipped_some [] none some = absurd (some refl)
-clipped_some (b ∷ rest) none some = lines_of-rest b rest none ∙ ap (λ (l : List ℕ). l ∷ []) (sym (append-nil (b ∷ rest)))
+clipped_some (b ∷ rest) none some = lines_of-rest (b ∷ rest) none ∙ ap (λ (l : List ℕ). l ∷ []) (sym (append-nil (b ∷ rest)))
 
 pub not_none : (n : ℕ) (b : Bool) → b ≡ nat_eq n 0 → b ≡ false → n ≡ 0 → ⊥
 not_none n b test is none = let e : nat_eq n 0 ≡ true = ap (λ (k : ℕ). nat_eq k 0) none in cc

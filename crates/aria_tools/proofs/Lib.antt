@@ -1,5 +1,4 @@
 pub mod Answering
-pub mod Scripts
 pub mod Doing
 pub mod Splitting
 pub mod Holding
