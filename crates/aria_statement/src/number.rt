@@ -1,3 +1,5 @@
+//! Numbers, of any number of digits.
+
 ghost use Rattle.std.specs.Prelude.{◌≡◌, ◌≤◌, ◌-◌, ◌^◌, min, pos, nat_lt, nat_le, if◌then◌else◌};
 ghost use Rattle.aria_model.specs.Token.{digits_value, minus, Number, Wide};
 ghost use Rattle.aria_statement.specs.Lexing.{seen};

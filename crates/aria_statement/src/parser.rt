@@ -1,3 +1,5 @@
+//! Statements, by their first word, and whole lines.
+
 ghost use Rattle.std.specs.Prelude.{◌≡◌, IfOk, IfSome};
 ghost use Rattle.std.specs.List.{list_all};
 ghost use Rattle.aria_model.specs.Token.{is_blank};

@@ -16,7 +16,7 @@ use aria_page::{List, Name};
 use aria_value::{Column, ColumnType, Row, Value};
 use std::alloc::Global;
 
-// No statement goes on with the token at this byte.
+/// No statement goes on with the token at this byte.
 pub fn bad(at: u64) -> Refusal
     ensures { result ≡ BadStatement at }
 {
@@ -33,6 +33,7 @@ pub fn read_name(line: &[u8], at: usize) -> Result<(Name, usize), Refusal>
     }
 }
 
+/// Whether a word is a word of the grammar.
 pub fn is_keyword(word: &Name, keyword: &[u8]) -> bool
     ensures { result ≡ same_name word.now keyword.now }
 {
