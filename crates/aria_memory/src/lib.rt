@@ -10,3 +10,6 @@ mod select;
 mod tables;
 
 pub use tables::Tables;
+
+#[cfg(test)]
+mod tests;
