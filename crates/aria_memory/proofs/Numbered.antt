@@ -12,10 +12,10 @@ use Rattle.std.specs.Cmp.{tied_itself, Equal-is}
 use Rattle.std.proofs.lemmas.Cmp.{int_cmp_total}
 use Rattle.std.proofs.lemmas.Map.Lookups.{exact_signed}
 use Rattle.std.proofs.lemmas.Map.Entries.{length-values_of}
-use Rattle.std.proofs.Common.{sym, ap, ◌∙◌, arith, get_or, drop-cons, add-one, eq-eqb}
+use Rattle.std.proofs.Common.{sym, ap, ◌∙◌, arith, get_or, drop-cons, eq-eqb}
 use Rattle.std.proofs.lemmas.List.{drop_all}
 use Rattle.std.proofs.lemmas.List.Sums.{sum_by-drop_more}
-use Rattle.std.proofs.lemmas.Bool.{and_parts, and_from, ltb-true, lt-ltb}
+use Rattle.std.proofs.lemmas.Bool.{and_parts, ltb-true}
 use Rattle.aria_value.specs.declared.value.Value.{Value}
 use Rattle.aria_value.specs.declared.value.Value.TheVariants.{Null, Int, Text}
 use Rattle.aria_value.specs.declared.definition.ColumnType.{ColumnType}
@@ -28,7 +28,6 @@ use Rattle.aria_value.specs.Order.{value_at, value_cmp, columns_cmp, key_columns
 use Rattle.aria_value.specs.Stored.{value_length, row_length}
 use Rattle.aria_model.specs.declared.refusal.Refusal.{Refusal}
 use Rattle.aria_model.specs.declared.refusal.Refusal.TheVariants.{RowTooLong, Duplicate, RowsFull}
-use Rattle.aria_model.specs.Grammar.{HasNumberKey}
 use Rattle.aria_model.specs.Step.{may_hold, bad_column, bad_value, first_key_name, first_of, refused_where, row_refusal, Puts, put_all}
 use Rattle.aria_memory.specs.Keyed.{first_or_zero, key_column, is_int, is_number_key, are_number_keys, has_number_key, is_number, are_keyed}
 use Rattle.aria_memory.proofs.Entries.{any_alike, keyed_insert, put_inserted, sorted_values}
@@ -52,10 +51,6 @@ one_key columns (key ∷ other ∷ keys) is = absurd (cc)
 -- the key's column is its first, is one of the table's, and holds numbers
 pub number_key : (d : Definition) → has_number_key d ≡ true → (key_columns d.keys 0 ≡ key_column d ∷ []) × (key_column d < length d.columns) × (is_int (kind_at d.columns (key_column d)) ≡ true)
 number_key d is = one_key d.columns d.keys is
-
--- the test finds what every definition has that a line spells
-pub number_key_passes : (d : Definition) → HasNumberKey d → has_number_key d ≡ true
-number_key_passes d has = rw (has.keys) (and_from _ _ (lt-ltb _ _ has.within) (rw has.number refl))
 
 -- ---- rows by their numbers
 
@@ -111,26 +106,6 @@ held_from key nth (suc i) last (c ∷ cs) (v ∷ vs) at low int none =
 pub held : (d : Definition) (row : List Value) → has_number_key d ≡ true → bad_column (key_column d ∷ []) 0 [] d.columns row ≡ None → (n : ℤ) × (value_at row (key_column d) ≡ Int n)
 held d row is none = held_from (key_column d) 0 (key_column d) [] d.columns row (omega arith) (number_key d is).1 (number_key d is).2 none
 
--- the name that is told where values are left doesn't matter while there are columns
-pub last_free : (keyed : List ℕ) (nth : ℕ) (a b : List ℕ) (columns : List Column) (row : List Value) → 0 < length columns → bad_column keyed nth a columns row ≡ bad_column keyed nth b columns row
-last_free keyed nth a b [] row some = absurd (omega arith)
-last_free keyed nth a b (c ∷ cs) [] some = refl
-last_free keyed nth a b (c ∷ cs) (v ∷ vs) some = refl
-
--- one column on
-pub next_column : (keyed : List ℕ) (nth : ℕ) (last : List ℕ) (columns : List Column) (row : List Value) (c : Column) (v : Value)
-    → nth < length columns → nth < length row → get_or columns nth c ≡ c → get_or row nth v ≡ v → may_hold (list_any (λ k. k == nth) keyed) c.kind v ≡ true
-    → bad_column keyed nth last (drop nth columns) (drop nth row) ≡ bad_column keyed (nth + 1) c.name (drop (nth + 1) columns) (drop (nth + 1) row)
-next_column keyed nth last columns row c v low within column value may =
-    rw (drop-cons columns nth c, drop-cons row nth v, column, value, may, add-one) refl
-
--- a column that may not hold its value
-pub bad_here : (keyed : List ℕ) (nth : ℕ) (last : List ℕ) (columns : List Column) (row : List Value) (c : Column) (v : Value)
-    → nth < length columns → nth < length row → get_or columns nth c ≡ c → get_or row nth v ≡ v → may_hold (list_any (λ k. k == nth) keyed) c.kind v ≡ false
-    → bad_column keyed nth last (drop nth columns) (drop nth row) ≡ Some c.name
-bad_here keyed nth last columns row c v low within column value may =
-    rw (drop-cons columns nth c, drop-cons row nth v, column, value, may) refl
-
 -- a column without a value
 pub none_here : (keyed : List ℕ) (nth : ℕ) (last : List ℕ) (columns : List Column) (row : List Value) (c : Column)
     → nth < length columns → length row ≤ nth → get_or columns nth c ≡ c → bad_column keyed nth last (drop nth columns) (drop nth row) ≡ Some c.name
@@ -176,11 +151,6 @@ put_all_from d (row ∷ more) rows m n =
 pub put_all-fits : (d : Definition) (rows : List (List Value)) (row : List Value) (more : List (List Value)) → row_refusal d None 1 rows row ≡ None
     → put_all d None 1 rows (row ∷ more) ≡ put_all d None 1 (put (key_cmp d 0) row rows) more
 put_all-fits d rows row more fits = ap (puts_from d 1 rows row more) fits ∙ put_all_from d more (put (key_cmp d 0) row rows) (1 + 1) 1
-
--- a row that is refused
-pub put_all-refused : (d : Definition) (rows : List (List Value)) (row : List Value) (more : List (List Value)) (why : Refusal) → row_refusal d None 1 rows row ≡ Some why
-    → put_all d None 1 rows (row ∷ more) ≡ record { rows = rows; refusal = Some why }
-put_all-refused d rows row more why refused = ap (puts_from d 1 rows row more) refused
 
 -- ---- entries by number
 

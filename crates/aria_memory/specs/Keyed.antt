@@ -12,6 +12,7 @@ use Rattle.aria_value.specs.declared.definition.Definition.{Definition}
 use Rattle.aria_value.specs.Defined.{kind_at}
 use Rattle.aria_value.specs.Order.{value_at, key_columns}
 
+-- the first of some columns, and column 0 where there are none
 abbrev pub first_or_zero : List ℕ → ℕ
 first_or_zero [] = 0
 first_or_zero (c ∷ cs) = c
@@ -20,6 +21,7 @@ first_or_zero (c ∷ cs) = c
 abbrev pub key_column : Definition → ℕ
 key_column d = first_or_zero (key_columns d.keys 0)
 
+-- the column holds numbers
 abbrev pub is_int : ColumnType → Bool
 is_int kinds.Int = true
 is_int (kinds.Text limit) = false
