@@ -7,7 +7,7 @@ trap 'rm -rf "$room"' EXIT
 cd "$room" || exit 2
 
 # A copy, since the gate may leave the program without leave to execute it.
-if ! cp "$top/crates/aria/out/aria" aria; then
+if ! cp "$top/crates/aria/out/aria" aria 2> /dev/null; then
     echo "FAILED: crates/aria/out/aria is not built"
     exit 1
 fi
