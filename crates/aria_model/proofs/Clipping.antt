@@ -1,16 +1,11 @@
 -- A line past the limit may be cut to one byte past it.
-use Rattle.std.proofs.Common.{◌≡◌, ℕ, ◌<◌, inl, inr, Bool, false, ◌&&◌, List, ◌++◌, length, take, Option, Result, Err, refl, sym, ap, ◌∙◌, arith, length-append, lit<}
+use Rattle.std.proofs.Common.{◌≡◌, ℕ, ◌<◌, inl, inr, Bool, false, ◌&&◌, List, length, take, Err, refl, sym, ap, ◌∙◌, arith}
 use Rattle.std.specs.List.{list_all}
 use Rattle.std.proofs.lemmas.Bool.{lt-leb, cases_lt}
 use Rattle.std.proofs.lemmas.List.{take_all, length-take-le}
-use Rattle.aria_model.specs.declared.refusal.Exception.{Exception}
-use Rattle.aria_model.specs.declared.refusal.Refusal.{Refusal}
 use Rattle.aria_model.specs.declared.refusal.Refusal.TheVariants.{LineTooLong}
-use Rattle.aria_model.specs.declared.statement.Statement.{Statement}
-use Rattle.aria_model.specs.World.{World}
 use Rattle.aria_model.specs.Token.{is_blank}
 use Rattle.aria_model.specs.Grammar.{read_line, is_blank_line}
-use Rattle.aria_model.specs.Step.{step, answered, built_reply}
 
 -- The part is the line, or both are past the limit.
 pub data Clips : List ℕ → List ℕ → Type 0 where
@@ -36,34 +31,9 @@ pub is_blank_line-Clips : {part line : List ℕ} → Clips part line → is_blan
 is_blank_line-Clips whole = refl
 is_blank_line-Clips {part} {line} (past p l) = is_blank_line-past part p ∙ sym (is_blank_line-past line l)
 
--- It does and tells what the line does and tells.
-pub step-Clips : (world : World) (exception : Option Exception) {part line : List ℕ}
-    → Clips part line → step world part exception ≡ step world line exception
-step-Clips world exception clips =
-    ap (λ (read : Result (Option Statement) Refusal). let outcome = answered world read exception in record outcome { reply = built_reply outcome.reply }) (read_line-Clips clips)
-
--- more bytes behind both
-pub Clips-append : {part line : List ℕ} (more : List ℕ) → Clips part line → Clips (part ++ more) (line ++ more)
-Clips-append more whole = whole
-Clips-append {part} {line} more (past p l) =
-    past (rw (length-append part more) (omega arith)) (rw (length-append line more) (omega arith))
-
--- bytes behind the line alone, where the part is past the limit
-pub Clips-past : {part line : List ℕ} (more : List ℕ) → 1048576 < length part → Clips part line → Clips part (line ++ more)
-Clips-past {part} more p whole = past p (rw (length-append part more) (omega arith))
-Clips-past {part} {line} more p (past q l) = past p (rw (length-append line more) (omega arith))
-
 -- a front that is past the limit or the whole line
 pub Clips-take : (n : ℕ) (line : List ℕ) → 1048576 < n → Clips (take n line) line
 Clips-take n line h = elim (cases_lt (length line) n) [
   | inl short ↦ rw (take_all n line (omega arith)) whole
   | inr long ↦ past (rw (length-take-le n line long) h) (omega arith)
 ]
-
--- in particular one byte past it
-pub step-take : (world : World) (line : List ℕ) (exception : Option Exception) → step world (take 1048577 line) exception ≡ step world line exception
-step-take world line exception = step-Clips world exception (Clips-take 1048577 line (lit< tt))
-
--- The front is blank where the line is.
-pub is_blank_line-take : (line : List ℕ) → is_blank_line (take 1048577 line) ≡ is_blank_line line
-is_blank_line-take line = is_blank_line-Clips (Clips-take 1048577 line (lit< tt))

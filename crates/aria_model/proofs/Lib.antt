@@ -1,4 +1,3 @@
 pub mod Lines
 pub mod Scripts
 pub mod Clipping
-pub mod Tokens
