@@ -138,6 +138,12 @@ runs '65,536 rows in one statement' 0 '' rows.aria run
     printf 'ok 65536\n'
 } > wanted
 tells '65,536 rows in one statement' wanted
+(
+    ulimit -v 10000
+    exec ./aria run < rows.aria > told 2> error
+)
+is_status 'the memory is less than the rows need' 3 $?
+is_error 'the memory is less than the rows need' $'aria: want of memory\n'
 {
     cat create.aria
     printf 'insert t'
