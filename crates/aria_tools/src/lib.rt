@@ -13,3 +13,6 @@ mod words;
 
 pub use command::{Ended, aria};
 pub use words::WordList;
+
+#[cfg(test)]
+mod tests;
