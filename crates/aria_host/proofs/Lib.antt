@@ -1,3 +1,2 @@
 mod Front
-mod Memory
 pub mod Moments

@@ -1,7 +1,9 @@
 pub mod Count
+pub mod Folder
+pub mod FileText
 pub mod State
+pub mod Steps
 pub mod Calls
 pub mod Source
-pub mod MemHost
 pub mod MemSource
 pub mod Untold

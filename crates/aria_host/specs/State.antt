@@ -1,13 +1,10 @@
 -- A host as contracts see it: the folder, what was told, and what a crash may leave.
-use Rattle.std.specs.Prelude.{◌≡◌, ◌⊎◌, ℕ, ◌≤◌, Option, List, ◌++◌, take}
-use Rattle.aria_host.specs.declared.file_name.FileName.{FileName}
+use Rattle.std.specs.Prelude.{◌≡◌, ◌⊎◌, ℕ, ◌≤◌, List, ◌++◌, take}
+pub use Rattle.aria_host.specs.Folder.{Folder}
 use Rattle.aria_host.specs.declared.host.Stream.{Stream}
 use Rattle.aria_host.specs.declared.host.Stream.TheVariants.{Out, Err}
 
--- the pages of each file that is there
-abbrev pub Folder : Type 0
-Folder = FileName → Option (List (List ℕ))
-
+-- what contracts know of a host
 pub record State : Type 1 where
   -- the folder as it reads
   pub folder : Folder

@@ -9,6 +9,8 @@ use thiserror::Error;
 pub enum Fault {
     #[error("want of memory")]
     Memory(AllocError),
+    #[error("the disk failed")]
+    Disk,
     #[error("an output stream refused bytes")]
     Tell,
     #[error("the input could not be read")]

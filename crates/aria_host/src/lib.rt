@@ -9,7 +9,7 @@ mod dir_host;
 mod fault;
 mod file_name;
 mod host;
-mod mem_host;
+mod open_files;
 mod mem_source;
 mod source;
 mod std_source;
@@ -17,11 +17,8 @@ mod std_source;
 pub use dir_host::DirHost;
 pub use fault::Fault;
 pub use file_name::FileName;
-pub use host::{Host, Stream};
-pub use mem_host::MemHost;
+pub use host::{Extent, Host, Stream};
 pub use mem_source::MemSource;
 pub use source::Source;
 pub use std_source::StdSource;
 
-#[cfg(test)]
-mod tests;
