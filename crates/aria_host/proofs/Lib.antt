@@ -1,2 +1,3 @@
 mod Front
+mod Memory
 pub mod Moments

@@ -3,7 +3,9 @@ pub mod Folder
 pub mod FileText
 pub mod State
 pub mod Steps
+pub mod Effect
 pub mod Calls
 pub mod Source
 pub mod MemSource
 pub mod Untold
+pub mod MemHost

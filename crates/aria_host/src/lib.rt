@@ -6,9 +6,11 @@
 #![tactic(auto)]
 
 mod dir_host;
+mod effect;
 mod fault;
 mod file_name;
 mod host;
+mod mem_host;
 mod open_files;
 mod mem_source;
 mod source;
@@ -18,6 +20,7 @@ pub use dir_host::DirHost;
 pub use fault::Fault;
 pub use file_name::FileName;
 pub use host::{Extent, Host, Stream};
+pub use mem_host::MemHost;
 pub use mem_source::MemSource;
 pub use source::Source;
 pub use std_source::StdSource;
