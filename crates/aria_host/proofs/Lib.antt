@@ -1,3 +1,4 @@
+pub mod Files
 mod Front
 mod Memory
 pub mod Moments

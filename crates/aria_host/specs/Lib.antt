@@ -4,6 +4,7 @@ pub mod FileText
 pub mod State
 pub mod Steps
 pub mod Effect
+pub mod Seen
 pub mod Calls
 pub mod Source
 pub mod MemSource

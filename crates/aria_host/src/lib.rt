@@ -13,6 +13,7 @@ mod host;
 mod mem_host;
 mod open_files;
 mod mem_source;
+mod seen;
 mod source;
 mod std_source;
 
