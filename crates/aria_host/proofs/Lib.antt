@@ -1,4 +1,5 @@
 pub mod Files
 mod Front
 mod Memory
+mod OnePass
 pub mod Moments

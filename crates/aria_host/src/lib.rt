@@ -16,6 +16,7 @@ mod mem_source;
 mod seen;
 mod source;
 mod std_source;
+mod zero_page;
 
 pub use dir_host::DirHost;
 pub use fault::Fault;

@@ -1,6 +1,9 @@
-ghost use Rattle.std.specs.Prelude.{◌≡◌, ◌≤◌, ◌^◌, IfSome, is_some};
+ghost use Rattle.std.specs.Prelude.{◌≡◌, ◌≤◌, ◌^◌, IfSome, length, reverse};
+ghost use Rattle.std.specs.Option.{option_map};
+ghost use Rattle.aria_host.specs.Folder.{Folder};
+ghost use Rattle.aria_host.specs.Effect.{reads};
 ghost use Rattle.aria_page.specs.Page.{zero_page};
-ghost use Rattle.aria_host.specs.Seen.{count_after, page_after};
+ghost use Rattle.aria_host.specs.Seen.{count_after, page_after, page_or_zero};
 
 use crate::FileName;
 use crate::effect::Effect;
@@ -72,4 +75,27 @@ pub(crate) fn page_after<'a>(
         }
         Effect::Synced(_) | Effect::Told(_, _) => held,
     }
+}
+
+/// The number of the file's pages after these changes, and that page of it, or zeros.
+pub(crate) fn see<'a>(
+    changes: &'a [Effect],
+    file: &FileName,
+    at: u32,
+    count: Option<u32>,
+    held: &'a Page,
+    zero: &'a Page,
+) -> (Option<u32>, &'a Page)
+    requires { zero.now ≡ zero_page }
+    ensures count { (base : Folder) → count ≡ option_map length (base file.now) → result.0 ≡ option_map length (reads base (reverse changes.now) file.now) }
+    ensures page { (base : Folder) → count ≡ option_map length (base file.now) → held.now ≡ page_or_zero at (base file.now) → result.1.now ≡ page_or_zero at (reads base (reverse changes.now) file.now) }
+    ensures small { IfSome count (λ n. n ≤ 2 ^ 31) → IfSome result.0 (λ n. n ≤ 2 ^ 31) }
+{
+    let mut count = count;
+    let mut held = held;
+    for change in changes {
+        held = page_after(change, file, at, count.is_some(), held, zero);
+        count = count_after(change, file, count);
+    }
+    (count, held)
 }
