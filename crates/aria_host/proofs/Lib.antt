@@ -1,5 +1,7 @@
+mod Causes
 pub mod Files
 mod Front
 mod Memory
+mod NameLists
 mod OnePass
 pub mod Moments

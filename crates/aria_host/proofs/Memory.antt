@@ -243,3 +243,12 @@ not_synced file old new same = record {
   folder = (unchanged old new same).folder;
   tells = same_tells old new same;
 }
+
+-- a call that changed no record, after one that didn't either
+pub same_twice : (old mid new : MemHost) → SameRecord old mid → SameRecord mid new → SameRecord old new
+same_twice old mid new first second = record {
+  base = second.base ∙ first.base;
+  changes = second.changes ∙ first.changes;
+  out = second.out ∙ first.out;
+  err = second.err ∙ first.err;
+}

@@ -1,6 +1,8 @@
 -- That one pass over a record sees the file as it reads.
 use Rattle.std.proofs.Common.{◌≡◌, ◌==◌, ◌&&◌, ◌⊎◌, inl, inr, ℕ, ◌+◌, ◌<◌, ◌≤◌, max, min, Bool, true, false, cond, Option, None, Some, is_some, List, [], ◌∷◌, ◌++◌, length, take, reverse, nat_le, get_or, unwrap_or, refl, sym, ◌∙◌, ap, subst, arith}
-use Rattle.std.specs.Option.{option_map}
+use Rattle.std.specs.Option.{option_map, option_map_or}
+use Rattle.std.specs.Prelude.{option_and_then, slice_get}
+use Rattle.std.proofs.lemmas.Option.{slice_get-get_or}
 use Rattle.std.proofs.lemmas.Bool.{cases_Bool, cases_lt}
 use Rattle.std.proofs.lemmas.Bool.Decides.{nat_tests}
 use Rattle.std.proofs.lemmas.List.{length-take, take_more, reverse-append, get_or-take, get_or_past}
@@ -140,3 +142,9 @@ sees_more changes i file at start first count new held next change so_far below 
         paged ∙ ap (λ (b : Bool). page_after change file at b held) there ∙ ap (λ (l : List ℕ). page_after change file at (is_some (before file)) l) (so_far.holds base is here)
         ∙ page_after-is change file at before ∙ ap (λ (f : Folder). page_or_zero at (f file)) (sym (then base));
     }
+
+-- a page before the end that is held is that page of the file
+pub held_page : (at : ℕ) (page : List ℕ) (content : Option Pages) → at < option_map_or length content 0 → page ≡ page_or_zero at content
+    → option_and_then (λ pages. slice_get pages at) content ≡ Some page
+held_page at page None below held = absurd (omega arith)
+held_page at page (Some pages) below held = slice_get-get_or pages at zero_page below ∙ ap Some (sym held)

@@ -1,5 +1,5 @@
 -- A folder: the pages of each file that is there.
-use Rattle.std.specs.Prelude.{◌≡◌, ◌==◌, if◌then◌else◌, ℕ, ◌+◌, ◌-◌, ◌^◌, ◌<◌, ⊤, Bool, true, false, Option, None, Some, List, [], ◌∷◌, ◌++◌, length, take, drop, replicate, slice_get, option_and_then}
+use Rattle.std.specs.Prelude.{◌≡◌, ◌==◌, if◌then◌else◌, ℕ, ◌+◌, ◌-◌, ◌^◌, ◌<◌, ⊤, Bool, true, false, nat_lt, Option, None, Some, List, [], ◌∷◌, ◌++◌, length, take, drop, replicate, slice_get, option_and_then}
 use Rattle.std.specs.Option.{option_map, option_map_or}
 use Rattle.std.specs.Cmp.Lexicographic.{pointwise}
 use Rattle.aria_page.specs.Page.{zero_page}
@@ -14,6 +14,11 @@ Folder = FileName → Option (List (List ℕ))
 abbrev pub IsFileName : FileName → Type 0
 IsFileName (Log number) = number < 2 ^ 24
 IsFileName _ = ⊤
+
+-- the same, as a test
+abbrev pub is_form : FileName → Bool
+is_form (Log number) = nat_lt number (2 ^ 24)
+is_form _ = true
 
 -- it is a file of the log
 abbrev pub is_log : FileName → Bool

@@ -6,6 +6,7 @@ pub mod Steps
 pub mod Effect
 pub mod Seen
 pub mod Calls
+pub mod Listing
 pub mod Source
 pub mod MemSource
 pub mod Untold

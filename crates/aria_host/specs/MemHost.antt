@@ -1,5 +1,5 @@
 -- A host in memory: the record of its changes tells what it stands for.
-use Rattle.std.specs.Prelude.{◌≡◌, ◌==◌, ℕ, ◌+◌, ◌≤◌, Bool, true, IsTrue, List, [], ◌∷◌, ◌++◌, length, reverse, refl, vec_len, vec_capacity}
+use Rattle.std.specs.Prelude.{◌≡◌, ◌==◌, ℕ, ◌+◌, ◌-◌, ◌^◌, ◌≤◌, min, Bool, true, false, IsTrue, List, [], ◌∷◌, ◌++◌, length, reverse, refl, vec_len, vec_capacity}
 use Rattle.std.specs.List.{list_any}
 use Rattle.std.proofs.Common.{inl, inr, arith}
 use Rattle.aria_host.specs.declared.host.Stream.{Stream}
@@ -63,6 +63,16 @@ SamePlan old new = new.planned.items ≡ old.planned.items
 pub record SameFaults (old new : MemHost) : Type 0 where
   pub disk : new.disk_faults ≡ old.disk_faults
   pub tell : new.tell_faults ≡ old.tell_faults
+
+-- A call that takes room for so many changes and told bytes. It fails where that is planned, and else only where no
+-- room is left; then it changes nothing.
+pub record IsMemCall (calls told : ℕ) (old new : MemHost) (done : Bool) : Type 0 where
+  pub planned : will_fail old ≡ true → done ≡ false
+  pub succeeds : will_fail old ≡ false → HasRoom old calls told → done ≡ true
+  pub nothing : done ≡ false → SameRecord old new
+  pub counted : new.calls ≡ min (old.calls + 1) (2 ^ 64 - 1)
+  pub plan : SamePlan old new
+  pub room : UsesRoom calls told old new
 
 -- that is one more change, and nothing is told
 pub record AddsChange (change : Effect) (old new : MemHost) : Type 0 where

@@ -1,5 +1,5 @@
 ghost use Rattle.std.specs.Prelude.{◌≡◌, ◌<◌, ◌^◌, IfOk, IfSome, ◌++◌};
-ghost use Rattle.aria_host.specs.Folder.{IsFileName, same_file};
+ghost use Rattle.aria_host.specs.Folder.{IsFileName, is_form, same_file};
 ghost use Rattle.aria_host.specs.FileText.{digit, eight_digits, log_text, file_text};
 
 use aria_page::{Bytes, Name};
@@ -144,6 +144,16 @@ impl FileName {
             FileName::Rows(name) => joined(alloc, name.as_slice(), ROWS),
             FileName::NewKeys(name) => joined(alloc, name.as_slice(), NEW_KEYS),
             FileName::NewRows(name) => joined(alloc, name.as_slice(), NEW_ROWS),
+        }
+    }
+
+    /// Whether the number of a log file is below 2^24.
+    pub(crate) fn is_form(&self) -> bool
+        ensures { result ≡ is_form self.now }
+    {
+        match self {
+            FileName::Log(number) => *number < MAX_LOGS,
+            _ => true,
         }
     }
 

@@ -10,6 +10,7 @@ mod effect;
 mod fault;
 mod file_name;
 mod host;
+mod listing;
 mod mem_host;
 mod open_files;
 mod mem_source;

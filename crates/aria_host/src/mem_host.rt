@@ -1,16 +1,20 @@
-ghost use Rattle.std.specs.Prelude.{◌≡◌, ℕ, ◌+◌, ◌-◌, ◌^◌, ◌≤◌, ◌<◌, ◌∷◌, ◌++◌, [], min, length, reverse, vec_len, vec_capacity, IsTrue, IsOk, IsErr, IsSome, IsNone, is_ok, OnOk, OnErr, IfOk, IfErr, IfSome, if◌then◌else◌, true, false, None, Some};
+ghost use Rattle.std.specs.Prelude.{◌≡◌, ℕ, ◌+◌, ◌-◌, ◌^◌, ◌≤◌, ◌<◌, ◌∷◌, ◌++◌, [], min, length, reverse, vec_len, vec_capacity, IsTrue, IsOk, IsErr, IsSome, IsNone, is_ok, OnOk, OnErr, IfOk, IfErr, IfSome, if◌then◌else◌, true, false, None, Some, Option, List, All, IsErrOf, alloc_error};
 ghost use Rattle.std.specs.Bool.{OnTrue, OnFalse};
 ghost use Rattle.std.specs.Option.{option_map, option_copied};
 ghost use Rattle.aria_page.specs.Page.{zero_page};
 ghost use Rattle.aria_host.specs.Count.{Rose};
 ghost use Rattle.aria_host.specs.Folder.{Folder, IsFileName, page_count, page_at};
-ghost use Rattle.aria_host.specs.Calls.{Writes, Cuts, Creates, Removes, Syncs, Tells, HasTellCause, HasDiskCause, told_on};
+ghost use Rattle.aria_host.specs.Calls.{Lists, extent_of, IsPage, Unchanged, Writes, Cuts, Creates, Removes, Syncs, Tells, HasTellCause, HasDiskCause, HasDiskOrMemoryCause, told_on};
 ghost use Rattle.aria_host.specs.State.{told};
-ghost use Rattle.aria_host.specs.Effect.{reads};
+ghost use Rattle.aria_host.specs.Seen.{page_or_zero};
+ghost use Rattle.aria_host.specs.Listing.{IsListed};
 ghost use Rattle.aria_host.specs.declared.host.Stream.TheVariants.{Out, Err as ErrStream};
-ghost use Rattle.aria_host.specs.MemHost.{mem_state, will_fail, Adds, AddsChange, HasRoom, IsFresh, SameRecord, SamePlan, SameFaults, UsesRoom, mem_reads_now, mem_counts_now, mem_only_now};
+ghost use Rattle.aria_host.specs.MemHost.{mem_state, will_fail, Adds, AddsChange, HasRoom, IsFresh, SameRecord, SamePlan, SameFaults, UsesRoom, IsMemCall, mem_reads_now, mem_counts_now, mem_only_now};
 
 use crate::effect::{Effect, PageNumber};
+use crate::listing::list;
+use crate::seen::see;
+use crate::zero_page::ZeroPage;
 use crate::{Extent, Fault, FileName, Host, Stream};
 use aria_page::{List, Page};
 use std::alloc::{AllocError, Global};
@@ -23,7 +27,7 @@ pub struct MemHost {
     changes: Vec<Effect>,
     out: Vec<u8>,
     err: Vec<u8>,
-    zero: Page,
+    zero: ZeroPage,
     calls: u64,
     planned: Vec<u64>,
     disk_faults: u64,
@@ -71,7 +75,7 @@ impl MemHost {
             changes: Vec::new(alloc),
             out: Vec::new(alloc),
             err: Vec::new(alloc),
-            zero: Page::zero(),
+            zero: ZeroPage::new(),
             calls: 0,
             planned: Vec::new(alloc),
             disk_faults: 0,
@@ -186,6 +190,7 @@ impl MemHost {
     fn disk_fault(&mut self) -> Fault
         ensures is { result ≡ Fault.Disk }
         ensures counted { self.new.disk_faults ≡ min (self.old.disk_faults + 1) (2 ^ 64 - 1) }
+        ensures later { self.old.disk_faults ≤ self.new.disk_faults }
         ensures tell { self.new.tell_faults ≡ self.old.tell_faults }
         ensures same { SameRecord self.old self.new }
         ensures plan { SamePlan self.old self.new }
@@ -195,4 +200,176 @@ impl MemHost {
         self.disk_faults = self.disk_faults.saturating_add(1);
         Fault::Disk
     }
+}
+
+// What a look finds of a file with so many pages.
+fn extent(count: Option<u32>) -> Option<Extent>
+    ensures value { (content : Option (List (List ℕ))) → count ≡ option_map length content → result ≡ extent_of content }
+    ensures small { IfSome count (λ n. n ≤ 2 ^ 31) → IfSome result (λ extent. extent.pages ≤ 2 ^ 31) }
+{
+    match count {
+        Some(pages) => Some(Extent { pages, odd: false }),
+        None => None,
+    }
+}
+
+impl MemHost {
+    // The number of the file's pages, and that page of it, or zeros.
+    fn seen(&self, file: &FileName, at: u32) -> (Option<u32>, &Page)
+        ensures count { result.0 ≡ option_map length ((mem_state self.now).folder file.now) }
+        ensures page { result.1.now ≡ page_or_zero at ((mem_state self.now).folder file.now) }
+        ensures small { IfSome result.0 (λ n. n ≤ 2 ^ 31) }
+    {
+        let zero = self.zero.get();
+        let (count, held) = see(&self.base, file, at, None, zero, zero);
+        see(&self.changes, file, at, count, held, zero)
+    }
+
+    // The names of the files that are there.
+    fn listed(&self, alloc: Global) -> Result<Vec<FileName>, AllocError>
+        ensures { IfOk result (λ names. IsListed (mem_state self.now).folder names.items) }
+    {
+        let names = list(alloc, &self.base, Vec::new(alloc))?;
+        list(alloc, &self.changes, names)
+    }
+}
+
+impl Host for MemHost {
+    ghost tells = { true };
+
+    ghost state = { mem_state };
+
+    fn names(&mut self, alloc: Global) -> Result<List<FileName>, Fault>
+        ensures names { IfOk result (λ names. Lists (mem_state self.old).folder names) }
+        ensures forms { IfOk result (λ names. All IsFileName names) }
+        ensures same { Unchanged (mem_state self.old) (mem_state self.new) }
+        ensures cause { HasDiskOrMemoryCause (mem_state self.old) (mem_state self.new) result }
+        // It fails where that is planned, and else only for want of memory.
+        ensures planned { will_fail self.old ≡ true → IsErrOf result Fault.Disk }
+        ensures memory { will_fail self.old ≡ false → IfErr result (λ fault. fault ≡ Fault.Memory alloc_error) }
+        ensures calls { self.new.calls ≡ min (self.old.calls + 1) (2 ^ 64 - 1) }
+        ensures plan { SamePlan self.old self.new }
+    {
+        if self.fails() {
+            return Err(self.disk_fault());
+        }
+        let names = self.listed(alloc)?;
+        Ok(List::from_vec(names))
+    }
+
+    fn look(&mut self, file: &FileName) -> Result<Option<Extent>, Fault>
+        requires { IsFileName file.now }
+        ensures found { IfOk result (λ found. found ≡ extent_of ((mem_state self.old).folder file.now)) }
+        ensures pages { IfOk result (λ found. IfSome found (λ extent. extent.pages ≤ 2 ^ 31)) }
+        ensures same { Unchanged (mem_state self.old) (mem_state self.new) }
+        ensures cause { HasDiskCause (mem_state self.old) (mem_state self.new) result }
+        ensures call { IsMemCall 0 0 self.old self.new (is_ok result) }
+    {
+        if self.fails() {
+            return Err(self.disk_fault());
+        }
+        let (count, _) = self.seen(file, 0);
+        Ok(extent(count))
+    }
+
+    fn read_page(&mut self, file: &FileName, page: u32, into: &mut Page) -> Result<(), Fault>
+        requires name { IsFileName file.now }
+        requires there { page < page_count file.now (mem_state self.old).folder }
+        ensures page { OnOk result (IsPage file.now page (mem_state self.old).folder into.new) }
+        ensures same { Unchanged (mem_state self.old) (mem_state self.new) }
+        ensures cause { HasDiskCause (mem_state self.old) (mem_state self.new) result }
+        ensures call { IsMemCall 0 0 self.old self.new (is_ok result) }
+    {
+        if self.fails() {
+            return Err(self.disk_fault());
+        }
+        let (_, held) = self.seen(file, page);
+        *into = *held;
+        Ok(())
+    }
+
+    fn write_page(&mut self, file: &FileName, page: u32, from: &Page) -> Result<(), Fault>
+        requires name { IsFileName file.now }
+        requires there { IsSome ((mem_state self.old).folder file.now) }
+        requires page { page < 2 ^ 31 }
+        ensures written { Writes file.now page from.now (mem_state self.old) (mem_state self.new) (is_ok result) }
+        ensures cause { HasDiskCause (mem_state self.old) (mem_state self.new) result }
+        ensures call { IsMemCall 1 0 self.old self.new (is_ok result) }
+    {
+        if !self.changes(Effect::Wrote(*file, PageNumber::new(page), *from)) {
+            return Err(self.disk_fault());
+        }
+        Ok(())
+    }
+
+    fn cut(&mut self, file: &FileName, pages: u32) -> Result<(), Fault>
+        requires name { IsFileName file.now }
+        requires there { IsSome ((mem_state self.old).folder file.now) }
+        requires pages { pages ≤ page_count file.now (mem_state self.old).folder }
+        ensures cut { Cuts file.now pages (mem_state self.old) (mem_state self.new) (is_ok result) }
+        ensures cause { HasDiskCause (mem_state self.old) (mem_state self.new) result }
+        ensures call { IsMemCall 1 0 self.old self.new (is_ok result) }
+    {
+        if !self.changes(Effect::Cut(*file, pages)) {
+            return Err(self.disk_fault());
+        }
+        Ok(())
+    }
+
+    fn create(&mut self, file: &FileName) -> Result<(), Fault>
+        requires name { IsFileName file.now }
+        requires absent { IsNone ((mem_state self.old).folder file.now) }
+        ensures created { Creates file.now (mem_state self.old) (mem_state self.new) (is_ok result) }
+        ensures cause { HasDiskCause (mem_state self.old) (mem_state self.new) result }
+        ensures call { IsMemCall 1 0 self.old self.new (is_ok result) }
+    {
+        if !self.changes(Effect::Created(*file)) {
+            return Err(self.disk_fault());
+        }
+        Ok(())
+    }
+
+    fn remove(&mut self, file: &FileName) -> Result<(), Fault>
+        requires name { IsFileName file.now }
+        requires there { IsSome ((mem_state self.old).folder file.now) }
+        ensures removed { Removes file.now (mem_state self.old) (mem_state self.new) (is_ok result) }
+        ensures cause { HasDiskCause (mem_state self.old) (mem_state self.new) result }
+        ensures call { IsMemCall 1 0 self.old self.new (is_ok result) }
+    {
+        if !self.changes(Effect::Removed(*file)) {
+            return Err(self.disk_fault());
+        }
+        Ok(())
+    }
+
+    fn sync(&mut self, file: &FileName) -> Result<(), Fault>
+        requires name { IsFileName file.now }
+        requires there { IsSome ((mem_state self.old).folder file.now) }
+        ensures synced { Syncs file.now (mem_state self.old) (mem_state self.new) (is_ok result) }
+        ensures cause { HasDiskCause (mem_state self.old) (mem_state self.new) result }
+        ensures call { IsMemCall 1 0 self.old self.new (is_ok result) }
+    {
+        if !self.changes(Effect::Synced(*file)) {
+            return Err(self.disk_fault());
+        }
+        Ok(())
+    }
+
+    fn tell(&mut self, stream: Stream, bytes: &[u8]) -> Result<(), Fault>
+        ensures told { Tells stream bytes.now (mem_state self.old) (mem_state self.new) (is_ok result) }
+        ensures cause { HasTellCause (mem_state self.old) (mem_state self.new) result }
+        ensures call { IsMemCall 1 (length bytes.now) self.old self.new (is_ok result) }
+    {
+        if !self.tells(stream, bytes) {
+            self.tell_faults = self.tell_faults.saturating_add(1);
+            return Err(Fault::Tell);
+        }
+        Ok(())
+    }
+
+    ghost reads_now = { mem_reads_now };
+
+    ghost counts_now = { mem_counts_now };
+
+    ghost only_now = { mem_only_now };
 }
