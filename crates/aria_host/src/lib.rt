@@ -28,3 +28,5 @@ pub use mem_source::MemSource;
 pub use source::Source;
 pub use std_source::StdSource;
 
+#[cfg(test)]
+mod tests;
