@@ -7,6 +7,7 @@ pub mod Effect
 pub mod Seen
 pub mod Calls
 pub mod Listing
+pub mod Crash
 pub mod Source
 pub mod MemSource
 pub mod Untold

@@ -1,5 +1,5 @@
 ghost use Rattle.std.specs.Prelude.{◌≡◌, ◌<◌, ◌^◌, IfOk, IfSome, ◌++◌};
-ghost use Rattle.aria_host.specs.Folder.{IsFileName, is_form, same_file};
+ghost use Rattle.aria_host.specs.Folder.{IsFileName, is_form, is_log, same_file};
 ghost use Rattle.aria_host.specs.FileText.{digit, eight_digits, log_text, file_text};
 
 use aria_page::{Bytes, Name};
@@ -155,6 +155,13 @@ impl FileName {
             FileName::Log(number) => *number < MAX_LOGS,
             _ => true,
         }
+    }
+
+    /// Whether it is a file of the log.
+    pub(crate) fn is_log(&self) -> bool
+        ensures { result ≡ is_log self.now }
+    {
+        matches!(self, FileName::Log(_))
     }
 
     /// Whether the two name the same file.

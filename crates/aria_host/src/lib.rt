@@ -5,8 +5,10 @@
 //! and which answer has which cause. A `Fault` is what went wrong outside, or want of memory.
 #![tactic(auto)]
 
+mod crash;
 mod dir_host;
 mod effect;
+mod fate;
 mod fault;
 mod file_name;
 mod host;
@@ -20,6 +22,7 @@ mod std_source;
 mod zero_page;
 
 pub use dir_host::DirHost;
+pub use fate::Fate;
 pub use fault::Fault;
 pub use file_name::FileName;
 pub use host::{Extent, Host, Stream};

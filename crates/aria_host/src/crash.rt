@@ -1,0 +1,85 @@
+ghost use Rattle.std.specs.Prelude.{◌≡◌, ◌∷◌, ◌++◌, List, IfOk, drop, option_to_list, if◌then◌else◌};
+ghost use Rattle.aria_host.specs.declared.effect.Effect.{Effect};
+ghost use Rattle.aria_host.specs.Crash.{is_sync_of, is_synced, next_fate, LeavesOfWrite, LeavesOfCut, Survive};
+
+use crate::effect::{Effect, PageNumber};
+use crate::fate::Fate;
+use crate::FileName;
+use aria_page::Page;
+use std::alloc::AllocError;
+
+fn is_sync_of(change: &Effect, file: &FileName) -> bool
+    ensures { result ≡ is_sync_of file.now change.now }
+{
+    match change {
+        Effect::Synced(name) => name.is_same(file),
+        _ => false,
+    }
+}
+
+// Whether the file is synced by one of these changes.
+fn is_synced(later: &[Effect], file: &FileName) -> bool
+    ensures { result ≡ is_synced file.now later.now }
+{
+    later.iter().any(|change| is_sync_of(change, file))
+}
+
+fn next_fate(fates: &[Fate]) -> Fate
+    ensures { result ≡ next_fate fates.now }
+{
+    match fates {
+        [] => Fate::Lost,
+        [fate, ..] => *fate,
+    }
+}
+
+// What a write of that fate leaves.
+fn written(file: &FileName, number: PageNumber, page: &Page, fate: &Fate) -> Option<Effect>
+    ensures { LeavesOfWrite file.now number page.now fate.now (option_to_list result) }
+{
+    match fate {
+        Fate::Kept => Some(Effect::Wrote(*file, number, *page)),
+        Fate::Lost => None,
+        Fate::Torn(torn) => {
+            if file.is_log() && !torn.is_sound() {
+                Some(Effect::Wrote(*file, number, *torn))
+            } else {
+                None
+            }
+        }
+    }
+}
+
+// What a cut of that fate leaves.
+fn cut(file: &FileName, pages: u32, fate: &Fate) -> Option<Effect>
+    ensures { LeavesOfCut file.now pages fate.now (option_to_list result) }
+{
+    match fate {
+        Fate::Kept => Some(Effect::Cut(*file, pages)),
+        Fate::Lost | Fate::Torn(_) => None,
+    }
+}
+
+// What is left of a change, and whether it took a fate.
+fn survivor(change: &Effect, later: &[Effect], fates: &[Fate]) -> (Option<Effect>, bool)
+    ensures { (rest : List Effect) → Survive later.now (if result.1 then drop 1 fates.now else fates.now) rest → Survive (change.now ∷ later.now) fates.now (option_to_list result.0 ++ rest) }
+{
+    match change {
+        Effect::Wrote(file, number, page) => {
+            if is_synced(later, file) {
+                (Some(*change), false)
+            } else {
+                (written(file, *number, page, &next_fate(fates)), true)
+            }
+        }
+        Effect::Cut(file, pages) => {
+            if is_synced(later, file) {
+                (Some(*change), false)
+            } else {
+                (cut(file, *pages, &next_fate(fates)), true)
+            }
+        }
+        Effect::Created(_) | Effect::Removed(_) | Effect::Set(_, _, _) => (Some(*change), false),
+        Effect::Synced(_) | Effect::Told(_, _) => (None, false),
+    }
+}
