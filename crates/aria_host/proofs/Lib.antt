@@ -1,3 +1,4 @@
+mod AfterCrash
 mod Causes
 pub mod Files
 mod Front

@@ -1,5 +1,5 @@
 -- What a crash leaves of a record of changes, oldest first, where each unsynced write or cut has a fate.
-use Rattle.std.specs.Prelude.{◌≡◌, ◌⊎◌, ℕ, Bool, true, false, IsTrue, List, [], ◌∷◌, ◌++◌, drop}
+use Rattle.std.specs.Prelude.{◌≡◌, ◌⊎◌, ℕ, Bool, true, false, IsTrue, List, [], ◌∷◌, ◌++◌, length, drop}
 use Rattle.std.specs.Bool.{MatchBool}
 use Rattle.std.specs.List.{list_any}
 use Rattle.aria_page.specs.Page.{IsSound}
@@ -30,7 +30,7 @@ abbrev pub LeavesOfWrite : FileName → ℕ → List ℕ → Fate → List Effec
 LeavesOfWrite file at page Kept now = now ≡ Wrote file at page ∷ []
 LeavesOfWrite file at page Lost now = now ≡ []
 LeavesOfWrite file at page (Torn torn) now =
-    (IsTrue (is_log file) × (¬ IsSound torn) × (now ≡ Wrote file at torn ∷ [])) ⊎ (((is_log file ≡ false) ⊎ IsSound torn) × (now ≡ []))
+    (IsTrue (is_log file) × (length torn ≡ 8192) × (¬ IsSound torn) × (now ≡ Wrote file at torn ∷ [])) ⊎ (((is_log file ≡ false) ⊎ IsSound torn) × (now ≡ []))
 
 -- what a cut of that fate leaves
 abbrev pub LeavesOfCut : FileName → ℕ → Fate → List Effect → Type 0

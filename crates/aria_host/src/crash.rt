@@ -1,8 +1,9 @@
-ghost use Rattle.std.specs.Prelude.{◌≡◌, ◌∷◌, ◌++◌, List, IfOk, drop, option_to_list, if◌then◌else◌};
+ghost use Rattle.std.specs.Prelude.{◌≡◌, ◌∷◌, ◌++◌, List, IfOk, length, true, false, drop, option_to_list, if◌then◌else◌};
+ghost use Rattle.aria_page.specs.Page.{IsSound};
 ghost use Rattle.aria_host.specs.declared.effect.Effect.{Effect};
 ghost use Rattle.aria_host.specs.Crash.{is_sync_of, is_synced, next_fate, LeavesOfWrite, LeavesOfCut, Survive};
 
-use crate::effect::{Effect, PageNumber};
+use crate::effect::{Effect, PageNumber, push};
 use crate::fate::Fate;
 use crate::FileName;
 use aria_page::Page;
@@ -33,6 +34,16 @@ fn next_fate(fates: &[Fate]) -> Fate
     }
 }
 
+// Whether the page may stand for a torn one.
+fn is_torn(page: &Page) -> bool
+    ensures sound { result ≡ true → ¬ IsSound page.now }
+    ensures is_not { result ≡ false → IsSound page.now }
+    ensures len { length page.now ≡ 8192 }
+{
+    let _bytes = page.bytes();
+    !page.is_sound()
+}
+
 // What a write of that fate leaves.
 fn written(file: &FileName, number: PageNumber, page: &Page, fate: &Fate) -> Option<Effect>
     ensures { LeavesOfWrite file.now number page.now fate.now (option_to_list result) }
@@ -41,7 +52,7 @@ fn written(file: &FileName, number: PageNumber, page: &Page, fate: &Fate) -> Opt
         Fate::Kept => Some(Effect::Wrote(*file, number, *page)),
         Fate::Lost => None,
         Fate::Torn(torn) => {
-            if file.is_log() && !torn.is_sound() {
+            if file.is_log() && is_torn(torn) {
                 Some(Effect::Wrote(*file, number, *torn))
             } else {
                 None
@@ -82,4 +93,46 @@ fn survivor(change: &Effect, later: &[Effect], fates: &[Fate]) -> (Option<Effect
         Effect::Created(_) | Effect::Removed(_) | Effect::Set(_, _, _) => (Some(*change), false),
         Effect::Synced(_) | Effect::Told(_, _) => (None, false),
     }
+}
+
+// The fates after a change that took one or didn't.
+fn fates_after(fates: &[Fate], spent: bool) -> &[Fate]
+    ensures { result.now ≡ (if spent then drop 1 fates.now else fates.now) }
+{
+    if !spent {
+        return fates;
+    }
+    match fates {
+        [] => fates,
+        [_, rest @ ..] => rest,
+    }
+}
+
+fn with_left(changes: Vec<Effect>, left: Option<Effect>) -> Result<Vec<Effect>, AllocError>
+    ensures { IfOk result (λ all. all.items ≡ changes.items ++ option_to_list left) }
+{
+    let mut all = changes;
+    match left {
+        Some(change) => push(&mut all, change, &FileName::Control)?,
+        None => {}
+    }
+    Ok(all)
+}
+
+/// The changes before, and what a crash leaves of those since, where each unsynced write or cut has a fate.
+pub(crate) fn survivors(
+    before: Vec<Effect>,
+    changes: &[Effect],
+    fates: &[Fate],
+) -> Result<Vec<Effect>, AllocError>
+    ensures { IfOk result (λ all. (left : List Effect) × (all.items ≡ before.items ++ left) × Survive changes.now fates.now left) }
+{
+    let mut all = before;
+    let mut fates = fates;
+    for (i, change) in changes.iter().enumerate() {
+        let (left, spent) = survivor(change, &changes[i + 1..], fates);
+        fates = fates_after(fates, spent);
+        all = with_left(all, left)?;
+    }
+    Ok(all)
 }

@@ -1,7 +1,8 @@
-ghost use Rattle.std.specs.Prelude.{◌≡◌, ◌<◌, ◌^◌};
+ghost use Rattle.std.specs.Prelude.{◌≡◌, ◌+◌, ◌<◌, ◌≤◌, ◌^◌, ◌∷◌, ◌++◌, [], IsOk, is_ok, if◌then◌else◌, vec_len, vec_capacity};
 
 use crate::{FileName, Stream};
 use aria_page::Page;
+use std::alloc::AllocError;
 use std::marker::Model;
 
 /// The number of a page in its file, below 2^31.
@@ -60,4 +61,19 @@ pub(crate) enum Effect {
     Set(FileName, PageNumber, Page),
     /// So many bytes were told.
     Told(Stream, usize),
+}
+
+/// Adds a change at the end of a record. The checker finds what an `Effect` holds only where `FileName` is named too.
+pub(crate) fn push(
+    changes: &mut Vec<Effect>,
+    change: Effect,
+    _file: &FileName,
+) -> Result<(), AllocError>
+    ensures items { changes.new.items ≡ (if is_ok result then changes.old.items ++ change ∷ [] else changes.old.items) }
+    ensures len { vec_len changes.new ≡ (if is_ok result then vec_len changes.old + 1 else vec_len changes.old) }
+    ensures succeeds { vec_len changes.old < vec_capacity changes.old → IsOk result }
+    ensures room { vec_capacity changes.old ≤ vec_capacity changes.new }
+{
+    changes.push(change)?;
+    Ok(())
 }

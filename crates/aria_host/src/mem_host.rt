@@ -11,7 +11,7 @@ ghost use Rattle.aria_host.specs.Listing.{IsListed};
 ghost use Rattle.aria_host.specs.declared.host.Stream.TheVariants.{Out, Err as ErrStream};
 ghost use Rattle.aria_host.specs.MemHost.{mem_state, will_fail, Adds, AddsChange, HasRoom, IsFresh, SameRecord, SamePlan, SameFaults, UsesRoom, IsMemCall, mem_reads_now, mem_counts_now, mem_only_now};
 
-use crate::effect::{Effect, PageNumber};
+use crate::effect::{Effect, PageNumber, push};
 use crate::listing::list;
 use crate::seen::see;
 use crate::zero_page::ZeroPage;
@@ -32,17 +32,6 @@ pub struct MemHost {
     planned: Vec<u64>,
     disk_faults: u64,
     tell_faults: u64,
-}
-
-// Adds a change at the end of a record.
-fn push(changes: &mut Vec<Effect>, change: Effect, _file: &FileName) -> Result<(), AllocError>
-    ensures items { changes.new.items ≡ (if is_ok result then changes.old.items ++ change ∷ [] else changes.old.items) }
-    ensures len { vec_len changes.new ≡ (if is_ok result then vec_len changes.old + 1 else vec_len changes.old) }
-    ensures succeeds { vec_len changes.old < vec_capacity changes.old → IsOk result }
-    ensures room { vec_capacity changes.old ≤ vec_capacity changes.new }
-{
-    changes.push(change)?;
-    Ok(())
 }
 
 // Adds the bytes to the buffer of that stream.
