@@ -1,11 +1,10 @@
 -- That what the fates leave of a record is what a crash may leave.
-use Rattle.std.proofs.Common.{◌≡◌, ◌||◌, ◌⊎◌, inl, inr, ℕ, ◌+◌, ◌<◌, ◌≤◌, Bool, true, false, cond, not, IsTrue, Option, None, Some, List, [], ◌∷◌, ◌++◌, length, take, drop, reverse, option_to_list, get_or, unwrap_or, refl, sym, ◌∙◌, ap, subst, append_assoc, arith}
+use Rattle.std.proofs.Common.{◌≡◌, ◌||◌, inl, inr, ℕ, ◌+◌, ◌<◌, ◌≤◌, Bool, true, false, cond, Option, None, Some, List, [], ◌∷◌, ◌++◌, length, take, drop, reverse, option_to_list, get_or, unwrap_or, refl, sym, ◌∙◌, ap, subst, append_assoc}
 use Rattle.std.specs.Bool.{MatchBool}
 use Rattle.std.specs.Option.{option_map}
 use Rattle.std.proofs.lemmas.Bool.{cases_Bool, false_from_ne_true}
 use Rattle.std.proofs.lemmas.Bool.Decides.{when_true}
 use Rattle.std.proofs.lemmas.List.{reverse-append, append-nil, drop_more, drop_all}
-use Rattle.aria_page.specs.Page.{IsSound, Sums}
 use Rattle.aria_host.specs.declared.effect.Effect.{Effect}
 use Rattle.aria_host.specs.declared.effect.Effect.TheVariants.{Wrote, Cut, Created, Removed, Synced, Set, Told}
 use Rattle.aria_host.specs.declared.fate.Fate.{Fate}
@@ -106,39 +105,39 @@ crash_leaves base (Wrote g at page ∷ later) fates left past d survive leaves s
   | inl certain ↦
       let kept = when_true _ _ certain survive in
       subst (λ (l : List Effect). MayLeave base (onto later (Wrote g at page ∷ past)) (replay d l)) (sym kept.1)
-        (crash_leaves base later fates kept.0 (Wrote g at page ∷ past) (with_page g at page d) kept.2 (d, leaves, inr (inl refl)) (λ f s. after_alike (Wrote g at page) f d (reads base past) (synced f s)))
+      (crash_leaves base later fates kept.0 (Wrote g at page ∷ past) (with_page g at page d) kept.2 (d, leaves, inr (inl refl)) (λ f s. after_alike (Wrote g at page) f d (reads base past) (synced f s)))
   | inr open_ ↦
       let given = when_false _ _ open_ survive in
       let comes = write_comes g at page d (next_fate fates) given.0 given.2 in
       subst (λ (c : Folder). MayLeave base (onto later (Wrote g at page ∷ past)) c) (sym (ap (replay d) given.3 ∙ comes.is given.1))
-        (crash_leaves base later (drop 1 fates) given.1 (Wrote g at page ∷ past) comes.image given.4 (d, leaves, comes.may)
-          (λ f s. let other = apart g f later open_ s in comes.others f other ∙ synced f s ∙ sym (with_file-other g f (option_map (put_page at page) (reads base past g)) (reads base past) other)))
+      (crash_leaves base later (drop 1 fates) given.1 (Wrote g at page ∷ past) comes.image given.4 (d, leaves, comes.may)
+      (λ f s. let other = apart g f later open_ s in comes.others f other ∙ synced f s ∙ sym (with_file-other g f (option_map (put_page at page) (reads base past g)) (reads base past) other)))
 ]
 crash_leaves base (Cut g n ∷ later) fates left past d survive leaves synced = elim (cases_Bool (is_synced g later)) [
   | inl certain ↦
       let kept = when_true _ _ certain survive in
       subst (λ (l : List Effect). MayLeave base (onto later (Cut g n ∷ past)) (replay d l)) (sym kept.1)
-        (crash_leaves base later fates kept.0 (Cut g n ∷ past) (with_cut g n d) kept.2 (d, leaves, inr refl) (λ f s. after_alike (Cut g n) f d (reads base past) (synced f s)))
+      (crash_leaves base later fates kept.0 (Cut g n ∷ past) (with_cut g n d) kept.2 (d, leaves, inr refl) (λ f s. after_alike (Cut g n) f d (reads base past) (synced f s)))
   | inr open_ ↦
       let given = when_false _ _ open_ survive in
       let comes = cut_comes g n d (next_fate fates) given.0 given.2 in
       subst (λ (c : Folder). MayLeave base (onto later (Cut g n ∷ past)) c) (sym (ap (replay d) given.3 ∙ comes.is given.1))
-        (crash_leaves base later (drop 1 fates) given.1 (Cut g n ∷ past) comes.image given.4 (d, leaves, comes.may)
-          (λ f s. let other = apart g f later open_ s in comes.others f other ∙ synced f s ∙ sym (with_file-other g f (option_map (take n) (reads base past g)) (reads base past) other)))
+      (crash_leaves base later (drop 1 fates) given.1 (Cut g n ∷ past) comes.image given.4 (d, leaves, comes.may)
+      (λ f s. let other = apart g f later open_ s in comes.others f other ∙ synced f s ∙ sym (with_file-other g f (option_map (take n) (reads base past g)) (reads base past) other)))
 ]
 crash_leaves base (Created g ∷ later) fates left past d (rest, is, survive) leaves synced =
     subst (λ (l : List Effect). MayLeave base (onto later (Created g ∷ past)) (replay d l)) (sym is)
-      (crash_leaves base later fates rest (Created g ∷ past) (after (Created g) d) survive (d, leaves, inl refl) (λ f s. after_alike (Created g) f d (reads base past) (synced f s)))
+    (crash_leaves base later fates rest (Created g ∷ past) (after (Created g) d) survive (d, leaves, inl refl) (λ f s. after_alike (Created g) f d (reads base past) (synced f s)))
 crash_leaves base (Removed g ∷ later) fates left past d (rest, is, survive) leaves synced =
     subst (λ (l : List Effect). MayLeave base (onto later (Removed g ∷ past)) (replay d l)) (sym is)
-      (crash_leaves base later fates rest (Removed g ∷ past) (after (Removed g) d) survive (d, leaves, inl refl) (λ f s. after_alike (Removed g) f d (reads base past) (synced f s)))
+    (crash_leaves base later fates rest (Removed g ∷ past) (after (Removed g) d) survive (d, leaves, inl refl) (λ f s. after_alike (Removed g) f d (reads base past) (synced f s)))
 crash_leaves base (Set g at page ∷ later) fates left past d (rest, is, survive) leaves synced =
     subst (λ (l : List Effect). MayLeave base (onto later (Set g at page ∷ past)) (replay d l)) (sym is)
-      (crash_leaves base later fates rest (Set g at page ∷ past) (with_set g at page d) survive (d, leaves, refl) (λ f s. after_alike (Set g at page) f d (reads base past) (synced f s)))
+    (crash_leaves base later fates rest (Set g at page ∷ past) (with_set g at page d) survive (d, leaves, refl) (λ f s. after_alike (Set g at page) f d (reads base past) (synced f s)))
 crash_leaves base (Synced g ∷ later) fates left past d survive leaves synced =
     let here : is_synced g (Synced g ∷ later) ≡ true = ap (λ (b : Bool). b || is_synced g later) (same_file-refl g) in
     crash_leaves base later fates left (Synced g ∷ past) d survive (leaves, synced g here)
-      (λ f s. synced f (ap (λ (b : Bool). same_file g f || b) s ∙ or_true (same_file g f)))
+    (λ f s. synced f (ap (λ (b : Bool). same_file g f || b) s ∙ or_true (same_file g f)))
   where
     or_true : (b : Bool) → (b || true) ≡ true
     or_true true = refl
@@ -154,7 +153,7 @@ onto-is (change ∷ changes) past =
     ∙ ap (λ (l : List Effect). l ++ past) (sym (reverse-append (change ∷ []) changes))
 
 -- what a record reads, in two parts
-reads-append : (base : Folder) (new old : List Effect) → reads base (new ++ old) ≡ reads (reads base old) new
+pub reads-append : (base : Folder) (new old : List Effect) → reads base (new ++ old) ≡ reads (reads base old) new
 reads-append base [] old = refl
 reads-append base (change ∷ new) old = ap (after change) (reads-append base new old)
 
@@ -190,9 +189,9 @@ left_more changes i change given fates next before all new left below item so_fa
   so_far = so_far.so_far ++ option_to_list left;
   is = added ∙ ap (λ (l : List Effect). l ++ option_to_list left) so_far.is ∙ append_assoc before so_far.so_far (option_to_list left);
   goes_on = λ rest s.
-    let here : drop i changes ≡ change ∷ drop (i + 1) changes = drop_more changes i change below ∙ ap (λ (e : Effect). e ∷ drop (i + 1) changes) (sym item) in
-    let now = subst (λ (l : List Effect). Survive l fates (option_to_list left ++ rest)) (sym here) (step rest s) in
-    subst (Survive changes given) (sym (append_assoc so_far.so_far (option_to_list left) rest)) (so_far.goes_on (option_to_list left ++ rest) now);
+      let here : drop i changes ≡ change ∷ drop (i + 1) changes = drop_more changes i change below ∙ ap (λ (e : Effect). e ∷ drop (i + 1) changes) (sym item) in
+      let now = subst (λ (l : List Effect). Survive l fates (option_to_list left ++ rest)) (sym here) (step rest s) in
+      subst (Survive changes given) (sym (append_assoc so_far.so_far (option_to_list left) rest)) (so_far.goes_on (option_to_list left ++ rest) now);
 }
 
 -- a pass that ends

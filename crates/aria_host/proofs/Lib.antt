@@ -1,5 +1,6 @@
 mod AfterCrash
 mod Causes
+mod Crashed
 pub mod Files
 mod Front
 mod Memory

@@ -68,16 +68,16 @@ along : (change : Effect) (added : List ℕ) (old new : MemHost) → Made change
     → P (base_of old) (change ∷ past_of old) (old.out.items ++ added) → P (base_of new) (past_of new) new.out.items
 along change added old new made P holds =
     subst (λ (f : Folder). P f (past_of new) new.out.items) (sym made.base)
-      (subst (λ (l : List Effect). P (base_of old) l new.out.items) (sym made.past)
-        (subst (λ (o : List ℕ). P (base_of old) (change ∷ past_of old) o) (sym made.out) holds))
+    (subst (λ (l : List Effect). P (base_of old) l new.out.items) (sym made.past)
+    (subst (λ (o : List ℕ). P (base_of old) (change ∷ past_of old) o) (sym made.out) holds))
 
 -- and the other way round
 back : (change : Effect) (added : List ℕ) (old new : MemHost) → Made change added old new → (P : Folder → List Effect → List ℕ → Type 0)
     → P (base_of new) (past_of new) new.out.items → P (base_of old) (change ∷ past_of old) (old.out.items ++ added)
 back change added old new made P holds =
     subst (λ (o : List ℕ). P (base_of old) (change ∷ past_of old) o) made.out
-      (subst (λ (l : List Effect). P (base_of old) l new.out.items) made.past
-        (subst (λ (f : Folder). P f (past_of new) new.out.items) made.base holds))
+    (subst (λ (l : List Effect). P (base_of old) l new.out.items) made.past
+    (subst (λ (f : Folder). P f (past_of new) new.out.items) made.base holds))
 
 -- telling some bytes is one more change
 told_made : (stream : Stream) (bytes : List ℕ) (old new : MemHost) → Adds stream bytes old new → Made (Told stream (length bytes)) (told_on Out stream bytes) old new
@@ -105,10 +105,10 @@ tells_done stream bytes old new adds =
       time = record {
         later = along change added old new made (λ f l o. length (past_of old) ≤ length l) (omega arith);
         nothing_else = λ t c b le left.
-          ⊎_elim (λ was. inl was) (λ now. inr (along change added old new made (λ f l o. MayLeave f l c) now.0, now.1, now.2))
+            ⊎_elim (λ was. inl was) (λ now. inr (along change added old new made (λ f l o. MayLeave f l c) now.0, now.1, now.2))
             (told_since (base_of old) (past_of old) stream bytes old.out.items t c b le (back change added old new made (λ f l o. Since f l o t c b) left));
         keeps = λ t c b le left.
-          along change added old new made (λ f l o. Since f l o t c b) (told_keeps (base_of old) (past_of old) stream bytes old.out.items t c b le left);
+            along change added old new made (λ f l o. Since f l o t c b) (told_keeps (base_of old) (past_of old) stream bytes old.out.items t c b le left);
       };
     }
 
@@ -151,14 +151,14 @@ change_tells change old new adds untold =
       time = record {
         later = along change [] old new made (λ f l o. length (past_of old) ≤ length l) (omega arith);
         nothing_else = λ t c b le left.
-          ⊎_elim (λ was. inl was) (λ now. inr (along change [] old new made (λ f l o. MayLeave f l c) now.0, now.1, now.2))
+            ⊎_elim (λ was. inl was) (λ now. inr (along change [] old new made (λ f l o. MayLeave f l c) now.0, now.1, now.2))
             (changed_since change (base_of old) (past_of old) out t c b (untold out) le
-              (subst (λ (o : List ℕ). Since (base_of old) (change ∷ past_of old) o t c b) (append-nil out)
-                (back change [] old new made (λ f l o. Since f l o t c b) left)));
+            (subst (λ (o : List ℕ). Since (base_of old) (change ∷ past_of old) o t c b) (append-nil out)
+            (back change [] old new made (λ f l o. Since f l o t c b) left)));
         keeps = λ t c b le left.
-          along change [] old new made (λ f l o. Since f l o t c b)
+            along change [] old new made (λ f l o. Since f l o t c b)
             (subst (λ (o : List ℕ). Since (base_of old) (change ∷ past_of old) o t c b) (sym (append-nil out))
-              (changed_keeps change (base_of old) (past_of old) out t c b (untold out) le left));
+            (changed_keeps change (base_of old) (past_of old) out t c b (untold out) le left));
       };
     }
 
@@ -195,8 +195,8 @@ kept : (old new : MemHost) → SameRecord old new → (P : Folder → List Effec
     → P (base_of new) (past_of new) new.out.items
 kept old new same P holds =
     subst (λ (f : Folder). P f (past_of new) new.out.items) (sym (ap (λ (l : List Effect). reads no_files (reverse l)) same.base))
-      (subst (λ (l : List Effect). P (base_of old) l new.out.items) (sym (ap reverse same.changes))
-        (subst (λ (o : List ℕ). P (base_of old) (past_of old) o) (sym same.out) holds))
+    (subst (λ (l : List Effect). P (base_of old) l new.out.items) (sym (ap reverse same.changes))
+    (subst (λ (o : List ℕ). P (base_of old) (past_of old) o) (sym same.out) holds))
 
 -- the same record, the other way round
 turned : (old new : MemHost) → SameRecord old new → SameRecord new old

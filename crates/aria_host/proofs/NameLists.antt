@@ -1,5 +1,5 @@
 -- That the names that are kept are those of the files that are there.
-use Rattle.std.proofs.Common.{◌≡◌, ◌&&◌, ◌⊎◌, inl, inr, ℕ, ◌+◌, ◌^◌, ◌<◌, ◌≤◌, Bool, true, false, cond, nat_lt, not, Option, None, Some, is_some, List, [], ◌∷◌, ◌++◌, length, take, reverse, All, filter, count_by, get_or, refl, sym, ◌∙◌, ap, subst, rules, arith, zero-add, add-zero, unwrap_or, ◌||◌}
+use Rattle.std.proofs.Common.{◌≡◌, ◌&&◌, inl, inr, ℕ, ◌+◌, ◌<◌, ◌≤◌, Bool, true, false, cond, not, Option, None, Some, is_some, List, [], ◌∷◌, ◌++◌, length, take, reverse, All, filter, count_by, get_or, refl, sym, ◌∙◌, ap, subst, rules, arith, zero-add, add-zero, unwrap_or, ◌||◌}
 use Rattle.std.specs.List.{list_any}
 use Rattle.std.specs.Option.{option_map}
 use Rattle.std.proofs.lemmas.Bool.{cases_Bool, false_from_ne_true}
@@ -147,16 +147,16 @@ listed_noted : (g : FileName) (pages : List (List ℕ)) (folder : Folder) (names
 listed_noted g pages folder names listed = record {
   forms = noted_forms g names (is_form g) (list_any (same_file g) names) refl refl listed.forms;
   once = λ f form.
-    elim (cases_Bool (same_file g f)) [
-      | inl same ↦
-          let is : g ≡ f = same_file-true g f same in
-          let form_g : is_form g ≡ true = ap is_form is ∙ form_from f form in
-          let most : times g names ≤ 1 = subst (λ (k : ℕ). k ≤ 1) (sym (listed.once g (form_true g form_g))) (at_most_one (is_some (folder g))) in
-          let once : times g (noted g names) ≡ 1 = noted_once g names (list_any (same_file g) names) form_g refl most in
-          ap (λ (h : FileName). times h (noted g names)) (sym is) ∙ once ∙ sym (expected g f (Some pages) folder true same)
-      | inr other ↦
-          noted_others g f names (is_form g) (list_any (same_file g) names) refl refl other ∙ listed.once f form ∙ sym (expected g f (Some pages) folder false other)
-    ];
+      elim (cases_Bool (same_file g f)) [
+        | inl same ↦
+            let is : g ≡ f = same_file-true g f same in
+            let form_g : is_form g ≡ true = ap is_form is ∙ form_from f form in
+            let most : times g names ≤ 1 = subst (λ (k : ℕ). k ≤ 1) (sym (listed.once g (form_true g form_g))) (at_most_one (is_some (folder g))) in
+            let once : times g (noted g names) ≡ 1 = noted_once g names (list_any (same_file g) names) form_g refl most in
+            ap (λ (h : FileName). times h (noted g names)) (sym is) ∙ once ∙ sym (expected g f (Some pages) folder true same)
+        | inr other ↦
+            noted_others g f names (is_form g) (list_any (same_file g) names) refl refl other ∙ listed.once f form ∙ sym (expected g f (Some pages) folder false other)
+      ];
 }
 
 -- a file that is removed
@@ -164,11 +164,11 @@ listed_gone : (g : FileName) (folder : Folder) (names : List FileName) → IsLis
 listed_gone g folder names listed = record {
   forms = All-filter (λ name. not (same_file g name)) IsFileName names listed.forms;
   once = λ f form.
-    elim (cases_Bool (same_file g f)) [
-      | inl same ↦
-          ap (λ (h : FileName). times h (gone g names)) (sym (same_file-true g f same)) ∙ times-gone g names ∙ sym (expected g f None folder true same)
-      | inr other ↦ times-others g f other names ∙ listed.once f form ∙ sym (expected g f None folder false other)
-    ];
+      elim (cases_Bool (same_file g f)) [
+        | inl same ↦
+            ap (λ (h : FileName). times h (gone g names)) (sym (same_file-true g f same)) ∙ times-gone g names ∙ sym (expected g f None folder true same)
+        | inr other ↦ times-others g f other names ∙ listed.once f form ∙ sym (expected g f None folder false other)
+      ];
 }
 
 -- a file that is changed
@@ -176,13 +176,13 @@ listed_kept : (g : FileName) (F : List (List ℕ) → List (List ℕ)) (folder :
 listed_kept g F folder names listed = record {
   forms = listed.forms;
   once = λ f form.
-    elim (cases_Bool (same_file g f)) [
-      | inl same ↦
-          let is : g ≡ f = same_file-true g f same in
-          listed.once f form ∙ ap (λ (h : FileName). cond (is_some (folder h)) 1 0) (sym is) ∙ ap (λ (b : Bool). cond b 1 0) (sym (still_there F (folder g)))
-          ∙ sym (expected g f (option_map F (folder g)) folder true same)
-      | inr other ↦ listed.once f form ∙ sym (expected g f (option_map F (folder g)) folder false other)
-    ];
+      elim (cases_Bool (same_file g f)) [
+        | inl same ↦
+            let is : g ≡ f = same_file-true g f same in
+            listed.once f form ∙ ap (λ (h : FileName). cond (is_some (folder h)) 1 0) (sym is) ∙ ap (λ (b : Bool). cond b 1 0) (sym (still_there F (folder g)))
+            ∙ sym (expected g f (option_map F (folder g)) folder true same)
+        | inr other ↦ listed.once f form ∙ sym (expected g f (option_map F (folder g)) folder false other)
+      ];
 }
   where
     still_there : (F : List (List ℕ) → List (List ℕ)) (content : Content) → is_some (option_map F content) ≡ is_some content

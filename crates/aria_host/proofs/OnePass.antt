@@ -1,5 +1,5 @@
 -- That one pass over a record sees the file as it reads.
-use Rattle.std.proofs.Common.{◌≡◌, ◌==◌, ◌&&◌, ◌⊎◌, inl, inr, ℕ, ◌+◌, ◌<◌, ◌≤◌, max, min, Bool, true, false, cond, Option, None, Some, is_some, List, [], ◌∷◌, ◌++◌, length, take, reverse, nat_le, get_or, unwrap_or, refl, sym, ◌∙◌, ap, subst, arith}
+use Rattle.std.proofs.Common.{◌≡◌, ◌==◌, ◌&&◌, inl, inr, ℕ, ◌+◌, ◌<◌, max, min, Bool, true, false, cond, Option, None, Some, is_some, List, [], ◌∷◌, length, take, reverse, nat_le, get_or, unwrap_or, refl, sym, ◌∙◌, ap, arith}
 use Rattle.std.specs.Option.{option_map, option_map_or}
 use Rattle.std.specs.Prelude.{option_and_then, slice_get}
 use Rattle.std.proofs.lemmas.Option.{slice_get-get_or}
@@ -134,13 +134,13 @@ sees_more changes i file at start first count new held next change so_far below 
     let then : (base : Folder) → reads base (reverse (take (i + 1) changes)) ≡ after change (reads base (reverse (take i changes))) = λ base. reads_more base changes i change below ∙ ap (λ (e : Effect). after e (reads base (reverse (take i changes)))) (sym item) in
     record {
       counts = λ base is.
-        let before = reads base (reverse (take i changes)) in
-        counted ∙ ap (count_after change file) (so_far.counts base is) ∙ count_after-is change file before ∙ ap (λ (f : Folder). option_map length (f file)) (sym (then base));
+          let before = reads base (reverse (take i changes)) in
+          counted ∙ ap (count_after change file) (so_far.counts base is) ∙ count_after-is change file before ∙ ap (λ (f : Folder). option_map length (f file)) (sym (then base));
       holds = λ base is here.
-        let before = reads base (reverse (take i changes)) in
-        let there : is_some count ≡ is_some (before file) = ap is_some (so_far.counts base is) ∙ is_some-count (before file) in
-        paged ∙ ap (λ (b : Bool). page_after change file at b held) there ∙ ap (λ (l : List ℕ). page_after change file at (is_some (before file)) l) (so_far.holds base is here)
-        ∙ page_after-is change file at before ∙ ap (λ (f : Folder). page_or_zero at (f file)) (sym (then base));
+          let before = reads base (reverse (take i changes)) in
+          let there : is_some count ≡ is_some (before file) = ap is_some (so_far.counts base is) ∙ is_some-count (before file) in
+          paged ∙ ap (λ (b : Bool). page_after change file at b held) there ∙ ap (λ (l : List ℕ). page_after change file at (is_some (before file)) l) (so_far.holds base is here)
+          ∙ page_after-is change file at before ∙ ap (λ (f : Folder). page_or_zero at (f file)) (sym (then base));
     }
 
 -- a page before the end that is held is that page of the file

@@ -1,5 +1,5 @@
 -- What each call of a host does.
-use Rattle.std.specs.Prelude.{◌≡◌, ◌⊎◌, ◌≤◌, ◌^◌, ℕ, if◌then◌else◌, Bool, false, IsTrue, Option, None, Some, is_some, List, [], ◌++◌, length, take, count_by, Result, IfOk, IfErr, IfSome, IsErrOf, alloc_error}
+use Rattle.std.specs.Prelude.{◌≡◌, ◌⊎◌, ◌≤◌, ℕ, if◌then◌else◌, Bool, false, IsTrue, Option, None, Some, is_some, List, [], ◌++◌, length, take, count_by, Result, IfErr, IsErrOf, alloc_error}
 use Rattle.std.specs.Option.{option_map}
 use Rattle.aria_host.specs.declared.fault.Fault.{Fault}
 use Rattle.aria_host.specs.declared.fault.Fault.TheVariants.{Memory, Disk, Tell}

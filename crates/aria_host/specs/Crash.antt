@@ -1,5 +1,5 @@
 -- What a crash leaves of a record of changes, oldest first, where each unsynced write or cut has a fate.
-use Rattle.std.specs.Prelude.{◌≡◌, ◌⊎◌, ℕ, Bool, true, false, IsTrue, List, [], ◌∷◌, ◌++◌, length, drop}
+use Rattle.std.specs.Prelude.{◌≡◌, ◌⊎◌, ℕ, Bool, false, IsTrue, List, [], ◌∷◌, ◌++◌, length, drop}
 use Rattle.std.specs.Bool.{MatchBool}
 use Rattle.std.specs.List.{list_any}
 use Rattle.aria_page.specs.Page.{IsSound}
@@ -8,8 +8,7 @@ use Rattle.aria_host.specs.declared.effect.Effect.TheVariants.{Wrote, Cut, Creat
 use Rattle.aria_host.specs.declared.fate.Fate.{Fate}
 use Rattle.aria_host.specs.declared.fate.Fate.TheVariants.{Kept, Lost, Torn}
 use Rattle.aria_host.specs.declared.file_name.FileName.{FileName}
-use Rattle.aria_host.specs.Effect.{after}
-use Rattle.aria_host.specs.Folder.{Folder, is_log, same_file}
+use Rattle.aria_host.specs.Folder.{is_log, same_file}
 
 -- the change is a sync of that file
 abbrev pub is_sync_of : FileName → Effect → Bool

@@ -1,10 +1,10 @@
 -- A record of changes, newest first, and what it stands for.
-use Rattle.std.specs.Prelude.{◌≡◌, ◌⊎◌, ℕ, ◌+◌, ◌-◌, ◌≤◌, true, Option, None, Some, List, [], ◌∷◌, ◌++◌, length, take, drop, unwrap_or, refl}
+use Rattle.std.specs.Prelude.{◌≡◌, ◌⊎◌, ℕ, ◌-◌, ◌≤◌, true, None, Some, List, [], ◌∷◌, ◌++◌, length, take, drop, unwrap_or, refl}
 use Rattle.std.proofs.Common.{inl, inr, arith}
 use Rattle.aria_host.specs.declared.effect.Effect.{Effect}
 use Rattle.aria_host.specs.declared.effect.Effect.TheVariants.{Wrote, Cut, Created, Removed, Synced, Set, Told}
 use Rattle.aria_host.specs.declared.file_name.FileName.{FileName}
-use Rattle.aria_host.specs.declared.host.Stream.TheVariants.{Out, Err}
+use Rattle.aria_host.specs.declared.host.Stream.TheVariants.{Out}
 use Rattle.aria_host.specs.Folder.{Folder, put_page, with_file, with_page, with_cut}
 use Rattle.aria_host.specs.Steps.{MayWrite, MayCut, MayMake}
 

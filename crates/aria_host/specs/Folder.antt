@@ -1,5 +1,5 @@
 -- A folder: the pages of each file that is there.
-use Rattle.std.specs.Prelude.{◌≡◌, ◌==◌, if◌then◌else◌, ℕ, ◌+◌, ◌-◌, ◌^◌, ◌<◌, ⊤, Bool, true, false, nat_lt, Option, None, Some, List, [], ◌∷◌, ◌++◌, length, take, drop, replicate, slice_get, option_and_then}
+use Rattle.std.specs.Prelude.{◌==◌, if◌then◌else◌, ℕ, ◌+◌, ◌-◌, ◌^◌, ◌<◌, ⊤, Bool, true, false, nat_lt, Option, List, ◌∷◌, ◌++◌, length, take, drop, replicate, slice_get, option_and_then}
 use Rattle.std.specs.Option.{option_map, option_map_or}
 use Rattle.std.specs.Cmp.Lexicographic.{pointwise}
 use Rattle.aria_page.specs.Page.{zero_page}

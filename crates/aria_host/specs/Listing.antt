@@ -1,5 +1,5 @@
 -- How the names of the files that are there follow the changes of a record.
-use Rattle.std.specs.Prelude.{◌&&◌, if◌then◌else◌, Bool, List, [], ◌∷◌, ◌++◌, All, filter, not}
+use Rattle.std.specs.Prelude.{◌&&◌, if◌then◌else◌, List, [], ◌∷◌, ◌++◌, All, filter, not}
 use Rattle.std.specs.List.{list_any}
 use Rattle.aria_host.specs.declared.effect.Effect.{Effect}
 use Rattle.aria_host.specs.declared.effect.Effect.TheVariants.{Wrote, Cut, Created, Removed, Synced, Set, Told}

@@ -1,13 +1,16 @@
 -- A host in memory: the record of its changes tells what it stands for.
-use Rattle.std.specs.Prelude.{◌≡◌, ◌==◌, ℕ, ◌+◌, ◌-◌, ◌^◌, ◌≤◌, min, Bool, true, false, IsTrue, List, [], ◌∷◌, ◌++◌, length, reverse, refl, vec_len, vec_capacity}
+use Rattle.std.specs.Prelude.{◌≡◌, ◌==◌, ◌||◌, ℕ, nat_le, None, ◌+◌, ◌-◌, ◌^◌, ◌≤◌, min, Bool, true, false, IsTrue, List, [], ◌∷◌, ◌++◌, length, reverse, refl, vec_len, vec_capacity}
 use Rattle.std.specs.List.{list_any}
+use Rattle.std.specs.Option.{option_map_or}
 use Rattle.std.proofs.Common.{inl, inr, arith}
 use Rattle.aria_host.specs.declared.host.Stream.{Stream}
 use Rattle.aria_host.specs.declared.host.Stream.TheVariants.{Out, Err}
 use Rattle.aria_host.specs.declared.effect.Effect.{Effect}
 use Rattle.aria_host.specs.declared.effect.Effect.TheVariants.{Told}
+use Rattle.aria_host.specs.declared.fate.Fate.{Fate}
 use Rattle.aria_host.specs.declared.mem_host.MemHost.{MemHost}
 use Rattle.aria_host.specs.Calls.{told_on}
+use Rattle.aria_host.specs.Crash.{Survive}
 use Rattle.aria_host.specs.Effect.{no_files, reads, MayLeave, Since, reads_is_left, no_earlier}
 use Rattle.aria_host.specs.State.{Folder, State}
 
@@ -32,9 +35,9 @@ mem_state host = record {
   tell_faults = host.tell_faults;
 }
 
--- the next call is planned to fail
+-- the next call is planned to fail, by itself or because the host is stopped
 abbrev pub will_fail : MemHost → Bool
-will_fail host = list_any (λ call. call == host.calls) host.planned.items
+will_fail host = list_any (λ call. call == host.calls) host.planned.items || option_map_or (λ stop. nat_le stop host.calls) host.stop false
 
 -- so many further calls, which tell so many bytes together, find the room that they need
 pub record HasRoom (host : MemHost) (calls told : ℕ) : Type 0 where
@@ -56,8 +59,9 @@ pub record SameRecord (old new : MemHost) : Type 0 where
   pub err : new.err.items ≡ old.err.items
 
 -- the same calls are planned to fail
-abbrev pub SamePlan : MemHost → MemHost → Type 0
-SamePlan old new = new.planned.items ≡ old.planned.items
+pub record SamePlan (old new : MemHost) : Type 0 where
+  pub planned : new.planned.items ≡ old.planned.items
+  pub stop : new.stop ≡ old.stop
 
 -- the same faults were counted
 pub record SameFaults (old new : MemHost) : Type 0 where
@@ -96,8 +100,21 @@ pub record IsFresh (host : MemHost) : Type 0 where
   pub err : host.err.items ≡ []
   pub calls : host.calls ≡ 0
   pub planned : host.planned.items ≡ []
+  pub stop : host.stop ≡ None
   pub disk_faults : host.disk_faults ≡ 0
   pub tell_faults : host.tell_faults ≡ 0
+
+-- A crash came: the folder is what the fates pick of the images, and no other image is left. Nothing is planned any more.
+pub record IsCrashed (fates : List Fate) (old new : MemHost) : Type 0 where
+  pub picked : (left : List Effect) × Survive old.changes.items fates left × ((mem_state new).folder ≡ reads (base_of old) (reverse left))
+  pub image : (mem_state old).may_leave (mem_state new).folder
+  pub only : (c : Folder) → (mem_state new).may_leave c → c ≡ (mem_state new).folder
+  pub out : new.out.items ≡ old.out.items
+  pub err : new.err.items ≡ old.err.items
+  pub calls : new.calls ≡ old.calls
+  pub planned : new.planned.items ≡ []
+  pub stop : new.stop ≡ None
+  pub faults : SameFaults old new
 
 pub mem_reads_now : (host : MemHost) → IsTrue true → (mem_state host).may_leave (mem_state host).folder
 mem_reads_now host _ = reads_is_left (base_of host) (past_of host)

@@ -1,13 +1,13 @@
-ghost use Rattle.std.specs.Prelude.{◌≡◌, ◌∷◌, ◌++◌, List, IfOk, length, true, false, drop, option_to_list, if◌then◌else◌};
+ghost use Rattle.std.specs.Prelude.{◌≡◌, ◌+◌, ◌<◌, ◌∷◌, ◌++◌, List, IfOk, length, true, false, drop, option_to_list, if◌then◌else◌};
 ghost use Rattle.aria_page.specs.Page.{IsSound};
 ghost use Rattle.aria_host.specs.declared.effect.Effect.{Effect};
 ghost use Rattle.aria_host.specs.Crash.{is_sync_of, is_synced, next_fate, LeavesOfWrite, LeavesOfCut, Survive};
 
+use crate::FileName;
 use crate::effect::{Effect, PageNumber, push};
 use crate::fate::Fate;
-use crate::FileName;
 use aria_page::Page;
-use std::alloc::AllocError;
+use std::alloc::{AllocError, Global};
 
 fn is_sync_of(change: &Effect, file: &FileName) -> bool
     ensures { result ≡ is_sync_of file.now change.now }
@@ -95,6 +95,14 @@ fn survivor(change: &Effect, later: &[Effect], fates: &[Fate]) -> (Option<Effect
     }
 }
 
+// The changes behind that one.
+fn behind(changes: &[Effect], at: usize) -> &[Effect]
+    requires { at < length changes.now }
+    ensures { result.now ≡ drop (at + 1) changes.now }
+{
+    &changes[at + 1..]
+}
+
 // The fates after a change that took one or didn't.
 fn fates_after(fates: &[Fate], spent: bool) -> &[Fate]
     ensures { result.now ≡ (if spent then drop 1 fates.now else fates.now) }
@@ -119,6 +127,17 @@ fn with_left(changes: Vec<Effect>, left: Option<Effect>) -> Result<Vec<Effect>, 
     Ok(all)
 }
 
+/// A copy of a record.
+pub(crate) fn copied(
+    alloc: Global,
+    changes: &[Effect],
+    _file: &FileName,
+) -> Result<Vec<Effect>, AllocError>
+    ensures { IfOk result (λ copy. copy.items ≡ changes.now) }
+{
+    Vec::from_slice(alloc, changes)
+}
+
 /// The changes before, and what a crash leaves of those since, where each unsynced write or cut has a fate.
 pub(crate) fn survivors(
     before: Vec<Effect>,
@@ -130,7 +149,7 @@ pub(crate) fn survivors(
     let mut all = before;
     let mut fates = fates;
     for (i, change) in changes.iter().enumerate() {
-        let (left, spent) = survivor(change, &changes[i + 1..], fates);
+        let (left, spent) = survivor(change, behind(changes, i), fates);
         fates = fates_after(fates, spent);
         all = with_left(all, left)?;
     }

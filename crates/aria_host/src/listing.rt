@@ -28,11 +28,7 @@ fn noted(names: Vec<FileName>, file: &FileName) -> Result<Vec<FileName>, AllocEr
 }
 
 // The names without that file.
-fn without(
-    alloc: Global,
-    names: &[FileName],
-    file: &FileName,
-) -> Result<Vec<FileName>, AllocError>
+fn without(alloc: Global, names: &[FileName], file: &FileName) -> Result<Vec<FileName>, AllocError>
     ensures { IfOk result (λ list. list.items ≡ filter (λ name. not (same_file file.now name)) names.now) }
 {
     let mut list = Vec::new(alloc);

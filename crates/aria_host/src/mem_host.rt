@@ -1,17 +1,20 @@
-ghost use Rattle.std.specs.Prelude.{◌≡◌, ℕ, ◌+◌, ◌-◌, ◌^◌, ◌≤◌, ◌<◌, ◌∷◌, ◌++◌, [], min, length, reverse, vec_len, vec_capacity, IsTrue, IsOk, IsErr, IsSome, IsNone, is_ok, OnOk, OnErr, IfOk, IfErr, IfSome, if◌then◌else◌, true, false, None, Some, Option, List, All, IsErrOf, alloc_error};
+ghost use Rattle.std.specs.Prelude.{◌≡◌, ℕ, ◌+◌, ◌-◌, ◌^◌, ◌≤◌, ◌<◌, ◌∷◌, ◌++◌, [], min, length, reverse, vec_len, vec_capacity, IsTrue, IsOk, IsErr, IsSome, IsNone, is_ok, OnOk, OnErr, IfOk, IfErr, IfSome, if◌then◌else◌, true, false, None, Some, Option, List, All, IsErrOf, alloc_error, nat_le};
 ghost use Rattle.std.specs.Bool.{OnTrue, OnFalse};
-ghost use Rattle.std.specs.Option.{option_map, option_copied};
+ghost use Rattle.std.specs.Option.{option_map, option_map_or, option_copied};
 ghost use Rattle.aria_page.specs.Page.{zero_page};
 ghost use Rattle.aria_host.specs.Count.{Rose};
 ghost use Rattle.aria_host.specs.Folder.{Folder, IsFileName, page_count, page_at};
-ghost use Rattle.aria_host.specs.Calls.{Lists, extent_of, IsPage, Unchanged, Writes, Cuts, Creates, Removes, Syncs, Tells, HasTellCause, HasDiskCause, HasDiskOrMemoryCause, told_on};
+ghost use Rattle.aria_host.specs.Calls.{Lists, extent_of, IsPage, Unchanged, Changes, Writes, Cuts, Creates, Removes, Syncs, Tells, HasTellCause, HasDiskCause, HasDiskOrMemoryCause, told_on};
 ghost use Rattle.aria_host.specs.State.{told};
+ghost use Rattle.aria_host.specs.Effect.{with_set};
 ghost use Rattle.aria_host.specs.Seen.{page_or_zero};
 ghost use Rattle.aria_host.specs.Listing.{IsListed};
 ghost use Rattle.aria_host.specs.declared.host.Stream.TheVariants.{Out, Err as ErrStream};
-ghost use Rattle.aria_host.specs.MemHost.{mem_state, will_fail, Adds, AddsChange, HasRoom, IsFresh, SameRecord, SamePlan, SameFaults, UsesRoom, IsMemCall, mem_reads_now, mem_counts_now, mem_only_now};
+ghost use Rattle.aria_host.specs.MemHost.{mem_state, will_fail, Adds, AddsChange, HasRoom, IsFresh, SameRecord, SamePlan, SameFaults, UsesRoom, IsMemCall, IsCrashed, mem_reads_now, mem_counts_now, mem_only_now};
 
+use crate::crash::{copied, survivors};
 use crate::effect::{Effect, PageNumber, push};
+use crate::fate::Fate;
 use crate::listing::list;
 use crate::seen::see;
 use crate::zero_page::ZeroPage;
@@ -23,6 +26,7 @@ use std::alloc::{AllocError, Global};
 /// reserved room. It keeps the record of its changes, from which all that it stands for is read off.
 #[derive(Drop)]
 pub struct MemHost {
+    alloc: Global,
     base: Vec<Effect>,
     changes: Vec<Effect>,
     out: Vec<u8>,
@@ -30,6 +34,7 @@ pub struct MemHost {
     zero: ZeroPage,
     calls: u64,
     planned: Vec<u64>,
+    stop: Option<u64>,
     disk_faults: u64,
     tell_faults: u64,
 }
@@ -60,6 +65,7 @@ impl MemHost {
         ensures { IsFresh result }
     {
         MemHost {
+            alloc,
             base: Vec::new(alloc),
             changes: Vec::new(alloc),
             out: Vec::new(alloc),
@@ -67,6 +73,7 @@ impl MemHost {
             zero: ZeroPage::new(),
             calls: 0,
             planned: Vec::new(alloc),
+            stop: None,
             disk_faults: 0,
             tell_faults: 0,
         }
@@ -88,11 +95,22 @@ impl MemHost {
     /// Lets the host call of that number fail, counted from 0.
     pub fn plan_fault(&mut self, call: u64) -> Result<(), AllocError>
         ensures planned { self.new.planned.items ≡ (if is_ok result then self.old.planned.items ++ call ∷ [] else self.old.planned.items) }
+        ensures stop { self.new.stop ≡ self.old.stop }
         ensures same { SameRecord self.old self.new }
         ensures calls { self.new.calls ≡ self.old.calls }
     {
         self.planned.push(call)?;
         Ok(())
+    }
+
+    /// Lets the host call of that number, counted from 0, and all later ones fail.
+    pub fn stop_at(&mut self, call: u64)
+        ensures stop { self.new.stop ≡ Some call }
+        ensures planned { self.new.planned.items ≡ self.old.planned.items }
+        ensures same { SameRecord self.old self.new }
+        ensures calls { self.new.calls ≡ self.old.calls }
+    {
+        self.stop = Some(call);
     }
 
     /// How many calls of `Host` were made, up to 2^64 - 1.
@@ -112,6 +130,62 @@ impl MemHost {
         }
     }
 
+    /// A page of a file, as it reads; `None` where the file isn't there or has no such page.
+    pub fn page(&self, file: &FileName, page: u32) -> Option<&Page>
+        ensures { option_copied result ≡ page_at file.now page (mem_state self.now).folder }
+    {
+        let (count, held) = self.seen(file, page);
+        match count {
+            Some(pages) if page < pages => Some(held),
+            _ => None,
+        }
+    }
+
+    /// Sets a page of a file, by the test's hand. It counts as synced, and the file is made where it isn't there.
+    pub fn set_page(&mut self, file: &FileName, page: u32, from: &Page) -> Result<(), AllocError>
+        requires name { IsFileName file.now }
+        requires page { page < 2 ^ 31 }
+        ensures ok { OnOk result (Changes (with_set file.now page from.now) (λ d c. c ≡ with_set file.now page from.now d) (mem_state self.old) (mem_state self.new) true) }
+        ensures err { OnErr result (SameRecord self.old self.new) }
+        ensures plan { SamePlan self.old self.new }
+        ensures calls { self.new.calls ≡ self.old.calls }
+        ensures faults { SameFaults self.old self.new }
+        ensures room { UsesRoom 1 0 self.old self.new }
+    {
+        push(
+            &mut self.changes,
+            Effect::Set(*file, PageNumber::new(page), *from),
+            file,
+        )
+    }
+
+    /// A crash: the folder becomes what the fates pick, one for each unsynced write or cut in the order of the calls.
+    /// Missing fates are `Lost`. What was told and the number of calls stay, and nothing is planned any more.
+    pub fn crash(&mut self, fates: &List<Fate>) -> Result<(), AllocError>
+        ensures ok { OnOk result (IsCrashed fates.now self.old self.new) }
+        ensures err { OnErr result (SameRecord self.old self.new) }
+        ensures plan { OnErr result (SamePlan self.old self.new) }
+        ensures calls { self.new.calls ≡ self.old.calls }
+        ensures faults { SameFaults self.old self.new }
+    {
+        let before = copied(self.alloc, &self.base, &FileName::Control)?;
+        self.base = survivors(before, &self.changes, fates.as_slice())?;
+        self.changes.clear();
+        self.planned.clear();
+        self.stop = None;
+        Ok(())
+    }
+
+    // Whether all calls from the next one on fail.
+    fn is_stopped(&self) -> bool
+        ensures { result ≡ option_map_or (λ stop. nat_le stop self.now.calls) self.now.stop false }
+    {
+        match self.stop {
+            Some(stop) => stop <= self.calls,
+            None => false,
+        }
+    }
+
     // Counts a call of the host, and says whether it is planned to fail.
     fn fails(&mut self) -> bool
         ensures planned { result ≡ will_fail self.old }
@@ -121,7 +195,7 @@ impl MemHost {
         ensures faults { SameFaults self.old self.new }
         ensures room { UsesRoom 0 0 self.old self.new }
     {
-        let fails = self.planned.contains(&self.calls);
+        let fails = self.planned.contains(&self.calls) || self.is_stopped();
         self.calls = self.calls.saturating_add(1);
         fails
     }
@@ -155,7 +229,11 @@ impl MemHost {
     {
         self.changes.reserve(1)?;
         extend(&mut self.out, &mut self.err, stream, bytes)?;
-        push(&mut self.changes, Effect::Told(stream, bytes.len()), &FileName::Control)
+        push(
+            &mut self.changes,
+            Effect::Told(stream, bytes.len()),
+            &FileName::Control,
+        )
     }
 
     // A call that tells bytes, unless it is planned to fail or there is no room, and says whether it did.

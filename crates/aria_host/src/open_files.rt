@@ -172,15 +172,13 @@ impl OpenFiles {
         into: &mut Page,
     ) -> io::Result<()> {
         let mut bytes = [0u8; 8192];
-        self.file(name)?
-            .read_exact_at(&mut bytes, offset_of(page))?;
+        self.file(name)?.read_exact_at(&mut bytes, offset_of(page))?;
         into.put(0, &bytes);
         Ok(())
     }
 
     pub(crate) fn write_page(&mut self, name: &FileName, page: u32, from: &Page) -> io::Result<()> {
-        self.file(name)?
-            .write_all_at(from.bytes(), offset_of(page))
+        self.file(name)?.write_all_at(from.bytes(), offset_of(page))
     }
 
     pub(crate) fn cut(&mut self, name: &FileName, pages: u32) -> io::Result<()> {

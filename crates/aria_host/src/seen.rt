@@ -60,11 +60,7 @@ pub(crate) fn page_after<'a>(
             }
         }
         Effect::Created(name) | Effect::Removed(name) => {
-            if name.is_same(file) {
-                zero
-            } else {
-                held
-            }
+            if name.is_same(file) { zero } else { held }
         }
         Effect::Set(name, number, page) => {
             if name.is_same(file) && number.get() == at {

@@ -82,12 +82,25 @@ fn use_files<H: Host>(host: &mut H, alloc: Global) -> Result<bool, Fault>
     let listed = names.as_slice().iter().any(|name| name.is_same(&JOURNAL));
     host.remove(&JOURNAL)?;
     let gone = host.look(&JOURNAL)?.is_none();
-    Ok(kept
-        && blank
-        && listed
-        && gone
-        && matches!(grown, Some(Extent { pages: 3, odd: false }))
-        && matches!(cut, Some(Extent { pages: 1, odd: false })))
+    Ok(
+        kept && blank
+            && listed
+            && gone
+            && matches!(
+                grown,
+                Some(Extent {
+                    pages: 3,
+                    odd: false
+                })
+            )
+            && matches!(
+                cut,
+                Some(Extent {
+                    pages: 1,
+                    odd: false
+                })
+            ),
+    )
 }
 
 #[test]
