@@ -6,7 +6,7 @@ use Rattle.aria_model.specs.World.{World}
 use Rattle.aria_model.specs.Script.{lines_of, ended_lines}
 use Rattle.aria_model.proofs.Lines.{ended_lines-front}
 use Rattle.aria_tools.specs.declared.stop.Stop.{Stop}
-use Rattle.aria_tools.specs.declared.stop.Stop.TheVariants.{Memory, Input, Tell, TooLong}
+use Rattle.aria_tools.specs.declared.stop.Stop.TheVariants.{Memory, Disk, Input, Tell, TooLong}
 use Rattle.aria_tools.specs.Held.{Splits}
 use Rattle.aria_tools.specs.Turns.{Does, TellsPart}
 use Rattle.aria_tools.specs.Stops.{IsOutputStop}
@@ -87,6 +87,7 @@ took_few ti to taken read rest w0 w1 r0 r1 h0 h1 s0 s1 reached =
 pub no_piece_stops : (ti to : Bool) (stop : Stop) (taken : ℕ) (read rest : List ℕ) (w0 w1 : World) (r0 r1 : Bool) (h0 h1 : State) (s0 s1 s2 : Supply)
     → Reached ti to taken read rest w0 w1 r0 r1 h0 h1 s0 s1 → NoPiece ti stop taken s1 s2 → StopsBy ti to stop s0 s2 w0 h0 h1
 no_piece_stops ti to Memory taken read rest w0 w1 r0 r1 h0 h1 s0 s1 s2 reached none = absurd none
+no_piece_stops ti to Disk taken read rest w0 w1 r0 r1 h0 h1 s0 s1 s2 reached none = absurd none
 no_piece_stops ti to Tell taken read rest w0 w1 r0 r1 h0 h1 s0 s1 s2 reached none = absurd none
 no_piece_stops ti to Input taken read rest w0 w1 r0 r1 h0 h1 s0 s1 s2 reached none = (
   subst (λ (n : ℕ). n ≤ s0.taken + 2 ^ 40) (sym none.2) (took_few ti to taken read rest w0 w1 r0 r1 h0 h1 s0 s1 reached),
@@ -103,6 +104,7 @@ no_piece_stops ti to TooLong taken read rest w0 w1 r0 r1 h0 h1 s0 s1 s2 reached 
 pub output_stops : (ti to : Bool) (stop : Stop) (s0 s1 : Supply) (w0 : World) (h0 h1 h2 : State)
     → TookFew s0 s1 → h0.tell_faults ≤ h1.tell_faults → IsOutputStop stop h1 h2 → StopsBy ti to stop s0 s1 w0 h0 h2
 output_stops ti to Memory s0 s1 w0 h0 h1 h2 few later is = few
+output_stops ti to Disk s0 s1 w0 h0 h1 h2 few later is = absurd is
 output_stops ti to Input s0 s1 w0 h0 h1 h2 few later is = absurd is
 output_stops ti to Tell s0 s1 w0 h0 h1 h2 few later is = (few, rose_since h0.tell_faults h1.tell_faults h2.tell_faults (2 ^ 64 - 1) later is)
 output_stops ti to TooLong s0 s1 w0 h0 h1 h2 few later is = absurd is

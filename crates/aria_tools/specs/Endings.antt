@@ -5,7 +5,7 @@ use Rattle.aria_host.specs.State.{State}
 use Rattle.aria_model.specs.World.{World, empty_world}
 use Rattle.aria_model.specs.Script.{lines_of, ended_lines, told, any_refused, no_exception}
 use Rattle.aria_tools.specs.declared.stop.Stop.{Stop}
-use Rattle.aria_tools.specs.declared.stop.Stop.TheVariants.{Memory, Input, Tell, TooLong}
+use Rattle.aria_tools.specs.declared.stop.Stop.TheVariants.{Memory, Disk, Input, Tell, TooLong}
 use Rattle.aria_tools.specs.Stops.{status_of}
 use Rattle.aria_tools.specs.Turns.{TellsPart}
 
@@ -44,6 +44,7 @@ TookFew before now = now.taken ≤ before.taken + 2 ^ 40
 -- the cause of each reason to stop
 abbrev pub StopsBy : Bool → Bool → Stop → Supply → Supply → World → State → State → Type 0
 StopsBy tells told Memory supply supply_now world before now = TookFew supply supply_now
+StopsBy tells told Disk supply supply_now world before now = ⊥
 StopsBy tells told Tell supply supply_now world before now = TookFew supply supply_now × Rose before.tell_faults now.tell_faults
 StopsBy tells told Input supply supply_now world before now = TookFew supply supply_now × Rose supply.faults supply_now.faults
     × (IsTrue tells → AnswersEnded told supply supply_now world before now)

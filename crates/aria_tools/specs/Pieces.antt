@@ -2,7 +2,7 @@
 use Rattle.std.specs.Prelude.{◌≡◌, ◌↔◌, ℕ, ◌+◌, ◌^◌, ◌≤◌, Bool, IsTrue, List, [], ◌∷◌, ◌++◌, take, length}
 use Rattle.aria_host.specs.Count.{Rose}
 use Rattle.aria_tools.specs.declared.stop.Stop.{Stop}
-use Rattle.aria_tools.specs.declared.stop.Stop.TheVariants.{Memory, Input, Tell, TooLong}
+use Rattle.aria_tools.specs.declared.stop.Stop.TheVariants.{Memory, Disk, Input, Tell, TooLong}
 use Rattle.aria_host.specs.State.{State}
 use Rattle.aria_model.specs.World.{World}
 use Rattle.aria_model.specs.Script.{ended_lines}
@@ -24,6 +24,7 @@ pub record TakesPiece (tells : Bool) (n taken : ℕ) (piece : List ℕ) (before 
 -- The input failed and nothing was taken, or a byte came behind so many as an input may have.
 abbrev pub NoPiece : Bool → Stop → ℕ → Supply → Supply → Type 0
 NoPiece tells Memory taken before now = ⊥
+NoPiece tells Disk taken before now = ⊥
 NoPiece tells Tell taken before now = ⊥
 NoPiece tells Input taken before now = Rose before.faults now.faults × (now.left ≡ before.left) × (now.taken ≡ before.taken)
 NoPiece tells TooLong taken before now = (taken ≡ 2 ^ 40) × Counts before.taken 1 now.taken

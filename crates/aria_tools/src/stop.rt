@@ -11,6 +11,7 @@ use std::alloc::{AllocError, AllocFailed};
 #[derive(Clone, Copy, Debug)]
 pub enum Stop {
     Memory,
+    Disk,
     Input,
     Tell,
     TooLong,
@@ -23,6 +24,7 @@ impl Stop {
     {
         match self {
             Stop::Memory => 3,
+            Stop::Disk => 4,
             Stop::Input => 6,
             Stop::Tell => 7,
             Stop::TooLong => 8,
@@ -52,6 +54,7 @@ impl From<Fault> for Stop {
     fn from(fault: Fault) -> Stop {
         match fault {
             Fault::Memory(_) => Stop::Memory,
+            Fault::Disk => Stop::Disk,
             Fault::Input => Stop::Input,
             Fault::Tell => Stop::Tell,
         }
