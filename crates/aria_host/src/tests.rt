@@ -1,7 +1,7 @@
 ghost use Rattle.std.specs.Prelude.{IsTrue};
 
-use crate::{DirHost, Extent, Fault, FileName, Host, MemHost, MemSource, Source, Stream};
-use aria_page::Page;
+use crate::{DirHost, Extent, Fate, Fault, FileName, Host, MemHost, MemSource, Source, Stream};
+use aria_page::{List, Page};
 use std::alloc::Global;
 use std::fs;
 use std::test::Fail;
@@ -108,5 +108,71 @@ fn the_current_folder_keeps_files(rt: HostRuntime) -> Result<(), Fail> {
     let mut host = DirHost::new(&rt);
     let _ = fs::remove_file(&rt, "aria_log.00000001");
     assert!(rt; use_files(&mut host, rt.alloc())?);
+    Ok(())
+}
+
+// What stands at the marked place of a page of the journal.
+fn mark(host: &MemHost, page: u32) -> Option<u8> {
+    Some(host.page(&JOURNAL, page)?.bytes()[100])
+}
+
+#[test]
+fn a_crash_keeps_loses_and_tears_as_the_fates_say(rt: HostRuntime) -> Result<(), Fail> {
+    let alloc = rt.alloc();
+    let mut host = MemHost::new(alloc);
+    host.reserve(16, 0)?;
+    host.create(&JOURNAL)?;
+    host.write_page(&JOURNAL, 0, &page_of(1))?;
+    host.sync(&JOURNAL)?;
+    host.write_page(&JOURNAL, 0, &page_of(2))?;
+    host.write_page(&JOURNAL, 1, &page_of(3))?;
+    host.write_page(&JOURNAL, 2, &page_of(4))?;
+    let mut fates = List::new(alloc);
+    fates.push(Fate::Lost)?;
+    fates.push(Fate::Torn(page_of(9)))?;
+    fates.push(Fate::Kept)?;
+    host.crash(&fates)?;
+    assert_eq!(rt; mark(&host, 0), Some(1));
+    assert_eq!(rt; mark(&host, 1), Some(9));
+    assert_eq!(rt; mark(&host, 2), Some(4));
+    assert_eq!(rt; mark(&host, 3), None);
+    Ok(())
+}
+
+#[test]
+fn missing_fates_are_lost_and_a_stop_ends_with_the_crash(rt: HostRuntime) -> Result<(), Fail> {
+    let alloc = rt.alloc();
+    let mut host = MemHost::new(alloc);
+    host.reserve(16, 8)?;
+    host.set_page(&JOURNAL, 1, &page_of(5))?;
+    host.write_page(&JOURNAL, 0, &page_of(6))?;
+    host.stop_at(1);
+    assert!(rt; matches!(host.sync(&JOURNAL), Err(Fault::Disk)));
+    assert!(rt; matches!(host.tell(Stream::Out, b"ok\n"), Err(Fault::Tell)));
+    assert_eq!(rt; mark(&host, 0), Some(6));
+    host.crash(&List::new(alloc))?;
+    assert_eq!(rt; mark(&host, 0), Some(0));
+    assert_eq!(rt; mark(&host, 1), Some(5));
+    host.tell(Stream::Out, b"ok\n")?;
+    assert_eq!(rt; host.calls(), 4);
+    Ok(())
+}
+
+#[test]
+fn the_names_of_the_forms_are_read_and_no_others(rt: HostRuntime) -> Result<(), Fail> {
+    let cases: [(&str, bool); 9] = [
+        ("aria_log_control", true),
+        ("aria_log.00000001", true),
+        ("aria_log.16777215", true),
+        ("t.MAI", true),
+        ("a_1.TMD", true),
+        ("aria_log.16777216", false),
+        ("aria_log.0000001", false),
+        ("1t.MAD", false),
+        (".TMI", false),
+    ];
+    for (text, is_form) in cases {
+        assert_eq!(rt; FileName::read(text.as_bytes()).is_some(), is_form);
+    }
     Ok(())
 }
