@@ -6,6 +6,8 @@ use Rattle.std.proofs.lemmas.List.{length-take, length-replicate, get_or_append_
 use Rattle.aria_page.specs.Page.{zero_page}
 use Rattle.aria_host.specs.declared.file_name.FileName.{FileName}
 use Rattle.aria_host.specs.declared.file_name.FileName.TheVariants.{Control, Log, Keys, Rows, NewKeys, NewRows}
+use Rattle.std.specs.Option.{option_map}
+use Rattle.aria_host.specs.Steps.{MayWrite, MayCut, MayMake}
 use Rattle.aria_host.specs.Folder.{Folder, same_file, put_page, with_file}
 
 -- a file is the same as itself
@@ -88,3 +90,23 @@ module _ {A : Type 0} (z : A) (at : ℕ) (page : A) (pages : List A) where
 pub get_or-put_page : (at n : ℕ) (page : List ℕ) (pages : List (List ℕ)) → get_or (put_page at page pages) n zero_page ≡ cond (at == n) page (get_or pages n zero_page)
 unfolding put_page
 get_or-put_page at n page pages = get_or-whole zero_page at page pages n
+
+-- a write leaves each other file alone, in every image
+pub write_others : (file f : FileName) (at : ℕ) (page : List ℕ) (before now : Folder) → same_file file f ≡ false → MayWrite file at page before now → now f ≡ before f
+write_others file f at page before now other (inl lost) = ap (λ (c : Folder). c f) lost
+write_others file f at page before now other (inr (inl kept)) =
+    ap (λ (c : Folder). c f) kept ∙ with_file-other file f (option_map (put_page at page) (before file)) before other
+write_others file f at page before now other (inr (inr (log, torn, long, sums, is))) =
+    ap (λ (c : Folder). c f) is ∙ with_file-other file f (option_map (put_page at torn) (before file)) before other
+
+-- and so does a cut
+pub cut_others : (file f : FileName) (pages : ℕ) (before now : Folder) → same_file file f ≡ false → MayCut file pages before now → now f ≡ before f
+cut_others file f pages before now other (inl lost) = ap (λ (c : Folder). c f) lost
+cut_others file f pages before now other (inr kept) =
+    ap (λ (c : Folder). c f) kept ∙ with_file-other file f (option_map (take pages) (before file)) before other
+
+-- and a file that is made or removed
+pub make_others : (file f : FileName) (content : Option (List (List ℕ))) (done : Bool) (before now : Folder) → same_file file f ≡ false → MayMake file content done before now
+    → now f ≡ before f
+make_others file f content done before now other (inl is) = ap (λ (c : Folder). c f) is ∙ with_file-other file f content before other
+make_others file f content done before now other (inr (not_done, is)) = ap (λ (c : Folder). c f) is
