@@ -1,0 +1,5 @@
+pub mod Digits
+pub mod Patterns
+mod Directory
+mod Seeking
+mod Runs

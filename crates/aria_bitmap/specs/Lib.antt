@@ -1,0 +1,4 @@
+pub mod Code
+pub mod Pattern
+pub mod Promise
+pub mod Sought

@@ -1,0 +1,6 @@
+-- Tables of codes that are looked for.
+use Rattle.std.specs.Prelude.{◌≡◌, ℕ, ◌<◌, ◌/◌, ◌%◌, Bool, false, ◌||◌, List, slice_index_or}
+
+-- a pair of octal digits is sought where one of them is
+abbrev pub OfPairs : List Bool → List Bool → Type 0
+OfPairs codes pairs = (x : ℕ) → x < 64 → slice_index_or pairs x false ≡ (slice_index_or codes (x % 8) false || slice_index_or codes (x / 8) false)
