@@ -1,5 +1,6 @@
 pub mod Digits
 pub mod Patterns
+pub mod Promises
 mod Directory
 mod Seeking
 mod Runs
