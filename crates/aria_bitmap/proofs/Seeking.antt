@@ -1,59 +1,62 @@
 -- Codes that are looked for.
 use Rattle.std.proofs.Common.{◌≡◌, ℕ, zero, suc, ◌+◌, ◌/◌, ◌%◌, ◌^◌, ◌<◌, ◌≤◌, Bool, true, false, List, get_or, refl, sym, ap, ◌∙◌, arith}
 use Rattle.std.specs.Prelude.{◌||◌}
+use Rattle.std.proofs.Math.Bool.{or_assoc}
 use Rattle.aria_bitmap.specs.Pattern.{digit, group, pattern}
-use Rattle.aria_bitmap.specs.Sought.{OfPairs}
+use Rattle.aria_bitmap.specs.Sought.{OfPairs, any_sought}
 
 -- neither of two tests that don't hold together
 or_false : (a b : Bool) → (a || b) ≡ false → (a ≡ false) × (b ≡ false)
 or_false false b e = (refl, e)
 or_false true b e = absurd cc
 
--- neither digit of a pair
-neither : (codes pairs : List Bool) → OfPairs codes pairs → (x : ℕ) → x < 64 → get_or pairs x false ≡ false
-    → (get_or codes (x % 8) false ≡ false) × (get_or codes (x / 8) false ≡ false)
-neither codes pairs of x lt none = or_false (get_or codes (x % 8) false) (get_or codes (x / 8) false) (sym (of x lt) ∙ none)
+-- where none of the lowest digits is sought, each of them isn't
+none_sought : (codes : List Bool) (n g : ℕ) → any_sought codes n g ≡ false → (k : ℕ) → k < n → get_or codes (digit k g) false ≡ false
+unfolding any_sought digit
+none_sought codes zero g none k lt = absurd (omega arith)
+none_sought codes (suc n) g none zero lt = (or_false (get_or codes (g % 8) false) (any_sought codes n (g / 8)) none).0
+none_sought codes (suc n) g none (suc k) lt = none_sought codes n (g / 8) (or_false (get_or codes (g % 8) false) (any_sought codes n (g / 8)) none).1 k (omega arith)
 
--- a code that is another number's
-at_code : (codes : List Bool) (x y : ℕ) → x ≡ y → get_or codes x false ≡ false → get_or codes y false ≡ false
-at_code codes x y e none = ap (λ (n : ℕ). get_or codes n false) (sym e) ∙ none
+-- two lowest digits by their pair, and the others
+pair-others : (codes pairs : List Bool) → OfPairs codes pairs → (n g x rest : ℕ) → x ≡ g % 64 → rest ≡ g / 64
+    → (get_or pairs x false || any_sought codes n rest) ≡ any_sought codes (suc (suc n)) g
+unfolding any_sought
+pair-others codes pairs of n g x rest ex er =
+    let first : x % 8 ≡ g % 8 = omega arith in
+    let second : x / 8 ≡ g / 8 % 8 = omega arith in
+    let last : rest ≡ g / 8 / 8 = omega arith in
+    ap (λ (b : Bool). b || any_sought codes n rest) (of x (omega arith))
+    ∙ or_assoc (get_or codes (x % 8) false) (get_or codes (x / 8) false) (any_sought codes n rest)
+    ∙ cc
 
--- none of the eight digits of a group, where no pair of them has one
-pub none_of_pairs : (codes pairs : List Bool) → OfPairs codes pairs → (g : ℕ) → g < 2 ^ 24
-    → get_or pairs (g % 64) false ≡ false → get_or pairs (g / 64 % 64) false ≡ false
-    → get_or pairs (g / 4096 % 64) false ≡ false → get_or pairs (g / 262144) false ≡ false
-    → (k : ℕ) → k < 8 → get_or codes (digit k g) false ≡ false
-unfolding digit
-none_of_pairs codes pairs of g fits a b c d zero lt = at_code codes (g % 64 % 8) (g % 8) (omega arith) (neither codes pairs of (g % 64) (omega arith) a).0
-none_of_pairs codes pairs of g fits a b c d (suc zero) lt = at_code codes (g % 64 / 8) (g / 8 % 8) (omega arith) (neither codes pairs of (g % 64) (omega arith) a).1
-none_of_pairs codes pairs of g fits a b c d (suc (suc zero)) lt = at_code codes (g / 64 % 64 % 8) (g / 8 / 8 % 8) (omega arith) (neither codes pairs of (g / 64 % 64) (omega arith) b).0
-none_of_pairs codes pairs of g fits a b c d (suc (suc (suc zero))) lt = at_code codes (g / 64 % 64 / 8) (g / 8 / 8 / 8 % 8) (omega arith) (neither codes pairs of (g / 64 % 64) (omega arith) b).1
-none_of_pairs codes pairs of g fits a b c d (suc (suc (suc (suc zero)))) lt = at_code codes (g / 4096 % 64 % 8) (g / 8 / 8 / 8 / 8 % 8) (omega arith) (neither codes pairs of (g / 4096 % 64) (omega arith) c).0
-none_of_pairs codes pairs of g fits a b c d (suc (suc (suc (suc (suc zero))))) lt = at_code codes (g / 4096 % 64 / 8) (g / 8 / 8 / 8 / 8 / 8 % 8) (omega arith) (neither codes pairs of (g / 4096 % 64) (omega arith) c).1
-none_of_pairs codes pairs of g fits a b c d (suc (suc (suc (suc (suc (suc zero)))))) lt = at_code codes (g / 262144 % 8) (g / 8 / 8 / 8 / 8 / 8 / 8 % 8) (omega arith) (neither codes pairs of (g / 262144) (omega arith) d).0
-none_of_pairs codes pairs of g fits a b c d (suc (suc (suc (suc (suc (suc (suc zero))))))) lt = at_code codes (g / 262144 / 8) (g / 8 / 8 / 8 / 8 / 8 / 8 / 8 % 8) (omega arith) (neither codes pairs of (g / 262144) (omega arith) d).1
-none_of_pairs codes pairs of g fits a b c d (suc (suc (suc (suc (suc (suc (suc (suc k)))))))) lt = absurd (omega arith)
+-- one of four tests holds
+four : (a b c d : Bool) → (((a || b) || c) || d) ≡ (a || (b || (c || (d || false))))
+four true b c d = refl
+four false true c d = refl
+four false false true d = refl
+four false false false true = refl
+four false false false false = refl
 
--- the same, of all pairs at once
-pub none_of_group : (codes pairs : List Bool) → OfPairs codes pairs → (g : ℕ) → g < 2 ^ 24
-    → (((get_or pairs (g % 64) false || get_or pairs (g / 64 % 64) false) || get_or pairs (g / 4096 % 64) false) || get_or pairs (g / 262144) false) ≡ false
-    → (k : ℕ) → k < 8 → get_or codes (digit k g) false ≡ false
-none_of_group codes pairs of g fits none =
+-- eight digits by their four pairs
+pub by_pairs : (codes pairs : List Bool) → OfPairs codes pairs → (g : ℕ) → g < 2 ^ 24
+    → (((get_or pairs (g % 64) false || get_or pairs (g / 64 % 64) false) || get_or pairs (g / 4096 % 64) false) || get_or pairs (g / 262144) false) ≡ any_sought codes 8 g
+unfolding any_sought
+by_pairs codes pairs of g fits =
     let a : Bool = get_or pairs (g % 64) false in
     let b : Bool = get_or pairs (g / 64 % 64) false in
     let c : Bool = get_or pairs (g / 4096 % 64) false in
     let d : Bool = get_or pairs (g / 262144) false in
-    let three = or_false ((a || b) || c) d none in
-    let two = or_false (a || b) c three.0 in
-    let one = or_false a b two.0 in
-    none_of_pairs codes pairs of g fits one.0 one.1 two.1 three.1
+    four a b c d
+    ∙ ap (λ (t : Bool). a || (b || (c || t))) (pair-others codes pairs of 0 (g / 262144) (g / 262144) 0 (omega arith) (omega arith))
+    ∙ ap (λ (t : Bool). a || (b || t)) (pair-others codes pairs of 2 (g / 4096) (g / 4096 % 64) (g / 262144) refl (omega arith))
+    ∙ ap (λ (t : Bool). a || t) (pair-others codes pairs of 4 (g / 64) (g / 64 % 64) (g / 4096) refl (omega arith))
+    ∙ pair-others codes pairs of 6 g (g % 64) (g / 64) refl refl
 
 -- none of the eight patterns of a group
-pub none_passed : (codes : List Bool) (body : List ℕ) (n g : ℕ) → n % 8 ≡ 0 → g ≡ group body (n / 8)
-    → ((k : ℕ) → k < 8 → get_or codes (digit k g) false ≡ false)
+pub none_passed : (codes : List Bool) (body : List ℕ) (n g : ℕ) → n % 8 ≡ 0 → g ≡ group body (n / 8) → any_sought codes 8 g ≡ false
     → (m : ℕ) → n ≤ m → m < n + 8 → get_or codes (pattern body m) false ≡ false
 unfolding pattern
 none_passed codes body n g whole is none m low high =
     let same : m / 8 ≡ n / 8 = omega arith in
     let here : group body (m / 8) ≡ g = ap (group body) same ∙ sym is in
-    rw here (none (m % 8) (omega arith))
+    rw here (none_sought codes 8 g none (m % 8) (omega arith))

@@ -1,7 +1,6 @@
 ghost use Rattle.std.specs.Prelude.{◌≡◌, ℕ, ◌<◌, ◌^◌, List, Bool, false, slice_index_or};
-ghost use Rattle.aria_bitmap.specs.Pattern.{digit};
 ghost use Rattle.aria_bitmap.specs.Promise.{promises};
-ghost use Rattle.aria_bitmap.specs.Sought.{OfPairs};
+ghost use Rattle.aria_bitmap.specs.Sought.{OfPairs, any_sought};
 
 // For each code whether it promises such a part.
 #[tactic(auto, unfolding(crate::specs::Promise::promises))]
@@ -47,7 +46,7 @@ pub fn pairs_of(codes: &[bool; 8]) -> [bool; 64]
 // Whether one of the eight digits of a group is sought.
 pub fn has_sought(group: u32, pairs: &[bool; 64]) -> bool
     requires { group < 2 ^ 24 }
-    ensures { result ≡ false → (codes : List Bool) → OfPairs codes pairs.now → (k : ℕ) → k < 8 → slice_index_or codes (digit k group) false ≡ false }
+    ensures { (codes : List Bool) → OfPairs codes pairs.now → result ≡ any_sought codes 8 group }
 {
     pairs[(group % 64) as usize]
         | pairs[(group / 64 % 64) as usize]
