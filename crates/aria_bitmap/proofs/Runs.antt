@@ -29,50 +29,60 @@ abbrev pub used_codes : List Bool
 used_codes = false ∷ true ∷ true ∷ true ∷ true ∷ true ∷ true ∷ true ∷ []
 
 -- what isn't sought among free pages isn't free
-not_free : (p : ℕ) → get_or free_codes p false ≡ false → p ≢ 0
-not_free zero e = absurd cc
-not_free (suc p) e = λ z. absurd (omega arith)
+not_free : (free : List Bool) → free ≡ free_codes → (p : ℕ) → get_or free p false ≡ false → p ≢ 0
+not_free free is p none = past p (ap (λ (codes : List Bool). get_or codes p false) (sym is) ∙ none)
+  where
+    past : (q : ℕ) → get_or free_codes q false ≡ false → q ≢ 0
+    past zero e = absurd cc
+    past (suc q) e = λ z. absurd (omega arith)
 
 -- what is found among used pages isn't free
-is_used : (p : ℕ) → get_or used_codes p false ≡ true → p ≢ 0
-is_used zero e = absurd cc
-is_used (suc p) e = λ z. absurd (omega arith)
+is_used : (used : List Bool) → used ≡ used_codes → (p : ℕ) → get_or used p false ≡ true → p ≢ 0
+is_used used is p found = past p (ap (λ (codes : List Bool). get_or codes p false) (sym is) ∙ found)
+  where
+    past : (q : ℕ) → get_or used_codes q false ≡ true → q ≢ 0
+    past zero e = absurd cc
+    past (suc q) e = λ z. absurd (omega arith)
 
 -- what isn't found among used pages is free
-is_free : (p : ℕ) → p < 8 → get_or used_codes p false ≡ false → p ≡ 0
-is_free zero lt e = refl
-is_free (suc zero) lt e = absurd cc
-is_free (suc (suc zero)) lt e = absurd cc
-is_free (suc (suc (suc zero))) lt e = absurd cc
-is_free (suc (suc (suc (suc zero)))) lt e = absurd cc
-is_free (suc (suc (suc (suc (suc zero))))) lt e = absurd cc
-is_free (suc (suc (suc (suc (suc (suc zero)))))) lt e = absurd cc
-is_free (suc (suc (suc (suc (suc (suc (suc zero))))))) lt e = absurd cc
-is_free (suc (suc (suc (suc (suc (suc (suc (suc p)))))))) lt e = absurd (omega arith)
+is_free : (used : List Bool) → used ≡ used_codes → (p : ℕ) → p < 8 → get_or used p false ≡ false → p ≡ 0
+is_free used is p low none = first p low (ap (λ (codes : List Bool). get_or codes p false) (sym is) ∙ none)
+  where
+    first : (q : ℕ) → q < 8 → get_or used_codes q false ≡ false → q ≡ 0
+    first zero lt e = refl
+    first (suc zero) lt e = absurd cc
+    first (suc (suc zero)) lt e = absurd cc
+    first (suc (suc (suc zero))) lt e = absurd cc
+    first (suc (suc (suc (suc zero)))) lt e = absurd cc
+    first (suc (suc (suc (suc (suc zero))))) lt e = absurd cc
+    first (suc (suc (suc (suc (suc (suc zero)))))) lt e = absurd cc
+    first (suc (suc (suc (suc (suc (suc (suc zero))))))) lt e = absurd cc
+    first (suc (suc (suc (suc (suc (suc (suc (suc q)))))))) lt e = absurd (omega arith)
 
 -- no used page from n on: a run
-pub run_found : (shown body : List ℕ) → shown ≡ body → (pages n end : ℕ) → end ≡ n + pages → n + pages ≤ 21808
-    → ((m : ℕ) → n ≤ m → m < end → get_or used_codes (pattern shown m) false ≡ false)
+pub run_found : (used : List Bool) → used ≡ used_codes → (shown body : List ℕ) → shown ≡ body → (pages n end : ℕ) → end ≡ n + pages → n + pages ≤ 21808
+    → ((m : ℕ) → n ≤ m → m < end → get_or used (pattern shown m) false ≡ false)
     → IsFreeRun body pages n
-run_found shown body same pages n end at within none = record {
+run_found used is shown body same pages n end at within none = record {
   within = within;
-  free = λ m low high. is_free (pattern body m) (pattern-lt body m) (ap (λ (l : List ℕ). get_or used_codes (pattern l m) false) (sym same) ∙ none m low (omega arith));
+  free = λ m low high. is_free used is (pattern body m) (pattern-lt body m) (ap (λ (l : List ℕ). get_or used (pattern l m) false) (sym same) ∙ none m low (omega arith));
 }
 
 -- a used page in the way, and no free page from it on up to the next place: no run begins before that
-pub no_run_before : (shown body : List ℕ) → shown ≡ body → (pages n end next : ℕ) → ((m : ℕ) → m < n → IsFreeRun body pages m → ⊥)
-    → n ≤ end → end < n + pages → get_or used_codes (pattern shown end) false ≡ true
-    → ((m : ℕ) → end + 1 ≤ m → m < next → get_or free_codes (pattern shown m) false ≡ false)
+pub no_run_before : (free used : List Bool) → free ≡ free_codes → used ≡ used_codes → (shown body : List ℕ) → shown ≡ body
+    → (pages n end next : ℕ) → ((m : ℕ) → m < n → IsFreeRun body pages m → ⊥)
+    → n ≤ end → end < n + pages → get_or used (pattern shown end) false ≡ true
+    → ((m : ℕ) → end + 1 ≤ m → m < next → get_or free (pattern shown m) false ≡ false)
     → (m : ℕ) → m < next → IsFreeRun body pages m → ⊥
-no_run_before shown body same pages n end next none low high used rest m lt run =
+no_run_before free used is_f is_u shown body same pages n end next none low high found rest m lt run =
     elim (cases_lt m n) [
       | inl before ↦ none m before run
       | inr from ↦ elim (cases_lt end m) [
         | inl past ↦
-            not_free (pattern body m) (ap (λ (l : List ℕ). get_or free_codes (pattern l m) false) (sym same) ∙ rest m (omega arith) lt)
+            not_free free is_f (pattern body m) (ap (λ (l : List ℕ). get_or free (pattern l m) false) (sym same) ∙ rest m (omega arith) lt)
             (run.free m (omega arith) (omega arith))
         | inr across ↦
-            is_used (pattern body end) (ap (λ (l : List ℕ). get_or used_codes (pattern l end) false) (sym same) ∙ used)
+            is_used used is_u (pattern body end) (ap (λ (l : List ℕ). get_or used (pattern l end) false) (sym same) ∙ found)
             (run.free end across (omega arith))
       ]
     ]

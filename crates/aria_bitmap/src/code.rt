@@ -4,6 +4,25 @@ ghost use Rattle.aria_bitmap.specs.Code.{entry, all_used, room, head_code, tail_
 
 use aria_page::{BODY_BYTES, Page, u16_of, u32_of};
 
+/// The kinds of pages that have codes of their own: the first byte of a body.
+const FREE_PAGE: u8 = 0;
+
+const HEAD_PAGE: u8 = 3;
+
+const TAIL_PAGE: u8 = 4;
+
+/// The least rooms of head pages with the codes 1, 2 and 3, in bytes.
+pub const ROOM_OF_1: u16 = 6000;
+
+pub const ROOM_OF_2: u16 = 4000;
+
+pub const ROOM_OF_3: u16 = 2000;
+
+/// The least rooms of tail pages with the codes 5 and 6, in bytes.
+pub const ROOM_OF_5: u16 = 4000;
+
+pub const ROOM_OF_6: u16 = 1000;
+
 /// The size of an entry of a page's directory, in bytes.
 const ENTRY_BYTES: usize = 4;
 
@@ -53,11 +72,11 @@ fn room(body: &[u8]) -> usize
 fn head_code(room: usize) -> u8
     ensures { result ≡ head_code room }
 {
-    if room >= 6000 {
+    if room >= ROOM_OF_1 as usize {
         1
-    } else if room >= 4000 {
+    } else if room >= ROOM_OF_2 as usize {
         2
-    } else if room >= 2000 {
+    } else if room >= ROOM_OF_3 as usize {
         3
     } else {
         4
@@ -67,9 +86,9 @@ fn head_code(room: usize) -> u8
 fn tail_code(room: usize) -> u8
     ensures { result ≡ tail_code room }
 {
-    if room >= 4000 {
+    if room >= ROOM_OF_5 as usize {
         5
-    } else if room >= 1000 {
+    } else if room >= ROOM_OF_6 as usize {
         6
     } else {
         7
@@ -84,9 +103,9 @@ pub fn code_of(page: &Page) -> u8
 {
     let body = page.body();
     match body[0] {
-        0 => 0,
-        3 => head_code(room(body)),
-        4 => tail_code(room(body)),
+        FREE_PAGE => 0,
+        HEAD_PAGE => head_code(room(body)),
+        TAIL_PAGE => tail_code(room(body)),
         _ => 7,
     }
 }

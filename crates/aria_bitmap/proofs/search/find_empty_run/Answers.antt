@@ -6,7 +6,7 @@ use Rattle.aria_bitmap.proofs.search.find_empty_run.Goals as goal
 pub returns-then-end-from : goal.returns-then-end-from
 returns-then-end-from c = (
   c.loop-from-test.true,
-  run_found c.body-body.result.now (page_body c.args.bitmap.now) c.body-body.ensures.value c.args.pages c.loop-from.from c.first_sought-end.result
+  run_found c.new-used.result c.new-used.ensures c.body-body.result.now (page_body c.args.bitmap.now) c.body-body.ensures.value c.args.pages c.loop-from.from c.first_sought-end.result
       (omega arith) (omega arith) c.first_sought-end.ensures.before,
   c.loop-from.invariant.1,
 )
@@ -14,7 +14,7 @@ returns-then-end-from c = (
 pub loop-from-preserved : goal.loop-from-preserved
 loop-from-preserved c = (
   omega arith,
-  no_run_before c.body-body.result.now (page_body c.args.bitmap.now) c.body-body.ensures.value c.args.pages c.loop-from.from c.first_sought-end.result c.first_sought-from.result
+  no_run_before c.new-free.result c.new-used.result c.new-free.ensures c.new-used.ensures c.body-body.result.now (page_body c.args.bitmap.now) c.body-body.ensures.value c.args.pages c.loop-from.from c.first_sought-end.result c.first_sought-from.result
       c.loop-from.invariant.1 (omega arith) (omega arith) (c.first_sought-end.ensures.found (omega arith)) c.first_sought-from.ensures.before,
 )
 

@@ -4,7 +4,7 @@ use Rattle.aria_bitmap.proofs.search.first_sought.Given as goal
 
 -- none before is sought
 abbrev pub invariant-loop-nth : goal.invariant-loop-nth
-invariant-loop-nth l = (l.from ≤ l.nth) × (l.nth ≤ l.to) × ((m : ℕ) → l.from ≤ m → m < l.nth → get_or l.codes (pattern l.body m) false ≡ false)
+invariant-loop-nth l = (l.from ≤ l.nth) × (l.nth ≤ l.to) × ((m : ℕ) → l.from ≤ m → m < l.nth → get_or l.sought (pattern l.body m) false ≡ false)
 
 abbrev pub decreases-loop-nth : goal.decreases-loop-nth
 decreases-loop-nth l = l.to - l.nth
