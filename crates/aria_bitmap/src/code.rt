@@ -4,23 +4,28 @@ ghost use Rattle.aria_bitmap.specs.Code.{entry, all_used, room, head_code, tail_
 
 use aria_page::{BODY_BYTES, Page, u16_of, u32_of};
 
-/// The kinds of pages that have codes of their own: the first byte of a body.
+/// The kind of a free page: the first byte of its body.
 const FREE_PAGE: u8 = 0;
 
+/// The kind of a head page.
 const HEAD_PAGE: u8 = 3;
 
+/// The kind of a tail page.
 const TAIL_PAGE: u8 = 4;
 
-/// The least rooms of head pages with the codes 1, 2 and 3, in bytes.
+/// The least room of a head page with code 1, in bytes.
 pub const ROOM_OF_1: u16 = 6000;
 
+/// The least room of a head page with code 2, in bytes.
 pub const ROOM_OF_2: u16 = 4000;
 
+/// The least room of a head page with code 3, in bytes.
 pub const ROOM_OF_3: u16 = 2000;
 
-/// The least rooms of tail pages with the codes 5 and 6, in bytes.
+/// The least room of a tail page with code 5, in bytes.
 pub const ROOM_OF_5: u16 = 4000;
 
+/// The least room of a tail page with code 6, in bytes.
 pub const ROOM_OF_6: u16 = 1000;
 
 /// The size of an entry of a page's directory, in bytes.
