@@ -1,5 +1,5 @@
 -- Codes that are looked for.
-use Rattle.std.proofs.Common.{◌≡◌, ℕ, zero, suc, ◌+◌, ◌/◌, ◌%◌, ◌^◌, ◌<◌, ◌≤◌, Bool, true, false, List, get_or, refl, sym, ap, ◌∙◌, arith}
+use Rattle.std.proofs.Common.{◌≡◌, ℕ, zero, suc, ◌*◌, ◌/◌, ◌%◌, ◌^◌, ◌<◌, ◌≤◌, Bool, true, false, List, get_or, refl, ap, ◌∙◌, arith}
 use Rattle.std.specs.Prelude.{◌||◌}
 use Rattle.std.proofs.Math.Bool.{or_assoc}
 use Rattle.aria_bitmap.specs.Pattern.{digit, group, pattern}
@@ -52,11 +52,10 @@ by_pairs codes pairs of g fits =
     ∙ ap (λ (t : Bool). a || t) (pair-others codes pairs of 4 (g / 64) (g / 64 % 64) (g / 4096) refl (omega arith))
     ∙ pair-others codes pairs of 6 g (g % 64) (g / 64) refl refl
 
--- none of the eight patterns of a group
-pub none_passed : (codes : List Bool) (body : List ℕ) (n g : ℕ) → n % 8 ≡ 0 → g ≡ group body (n / 8) → any_sought codes 8 g ≡ false
-    → (m : ℕ) → n ≤ m → m < n + 8 → get_or codes (pattern body m) false ≡ false
+-- none of the patterns of groups that have none
+pub none_past : (codes : List Bool) (body : List ℕ) (n end : ℕ) → n % 8 ≡ 0
+    → ((g : ℕ) → n / 8 ≤ g → g < end → any_sought codes 8 (group body g) ≡ false)
+    → (m : ℕ) → n ≤ m → m < 8 * end → get_or codes (pattern body m) false ≡ false
 unfolding pattern
-none_passed codes body n g whole is none m low high =
-    let same : m / 8 ≡ n / 8 = omega arith in
-    let here : group body (m / 8) ≡ g = ap (group body) same ∙ sym is in
-    rw here (none_sought codes 8 g none (m % 8) (omega arith))
+none_past codes body n end whole none m low high =
+    none_sought codes 8 (group body (m / 8)) (none (m / 8) (omega arith) (omega arith)) (m % 8) (omega arith)

@@ -1,33 +1,48 @@
 ghost use Rattle.std.specs.Prelude.{◌≡◌, ℕ, ◌+◌, ◌<◌, ◌≤◌, true, false, length, slice_index_or, IsTrue};
 ghost use Rattle.aria_page.specs.Page.{page_body};
-ghost use Rattle.aria_bitmap.specs.Pattern.{pattern};
+ghost use Rattle.aria_bitmap.specs.Pattern.{group, pattern};
 ghost use Rattle.aria_bitmap.specs.Promise.{promises, IsFreeRun, IsLowest};
+ghost use Rattle.aria_bitmap.specs.Sought.{any_sought};
 
 use crate::bitmap::{GROUP_PATTERNS, PATTERNS, pattern};
 use crate::group::group;
 use crate::sought::Sought;
 use aria_page::Page;
 
-// How many patterns from this one on can be passed over at once, none of them being sought: 0 where this
-// one is, and a whole group where it has none.
-fn passed(body: &[u8], nth: u32, to: u32, sought: &Sought) -> u32
+// The first group from one number on and below another that has a pattern that is sought; the latter
+// where none has.
+fn first_group(body: &[u8], from: u32, to: u32, sought: &Sought) -> u32
     requires body { length body.now ≡ 8181 }
-    requires nth { nth < to }
-    requires to { to ≤ 21808 }
-    ensures within { nth + result ≤ to }
-    ensures before { (m : ℕ) → nth ≤ m → m < nth + result → slice_index_or sought.now (pattern body.now m) false ≡ false }
-    ensures found { result ≡ 0 → slice_index_or sought.now (pattern body.now nth) false ≡ true }
+    requires from { from ≤ to }
+    requires to { to ≤ 2726 }
+    ensures low { from ≤ result }
+    ensures high { result ≤ to }
+    ensures before { (g : ℕ) → from ≤ g → g < result → any_sought sought.now 8 (group body.now g) ≡ false }
+    ensures found { result < to → any_sought sought.now 8 (group body.now result) ≡ true }
 {
-    if nth % GROUP_PATTERNS == 0
-        && to - nth >= GROUP_PATTERNS
-        && !sought.is_in(group(body, nth / GROUP_PATTERNS))
-    {
-        return GROUP_PATTERNS;
+    let mut nth = from;
+    while nth < to {
+        if sought.is_in(group(body, nth)) {
+            return nth;
+        }
+        nth += 1;
     }
-    if sought.has(pattern(body, nth)) {
-        return 0;
+    to
+}
+
+// The pattern past the whole groups from this one on in which none is sought; this one where it begins no group.
+fn past_groups(body: &[u8], nth: u32, to: u32, sought: &Sought) -> u32
+    requires body { length body.now ≡ 8181 }
+    requires nth { nth ≤ to }
+    requires to { to ≤ 21808 }
+    ensures low { nth ≤ result }
+    ensures high { result ≤ to }
+    ensures before { (m : ℕ) → nth ≤ m → m < result → slice_index_or sought.now (pattern body.now m) false ≡ false }
+{
+    if nth % GROUP_PATTERNS != 0 {
+        return nth;
     }
-    1
+    GROUP_PATTERNS * first_group(body, nth / GROUP_PATTERNS, to / GROUP_PATTERNS, sought)
 }
 
 // The first pattern from one number on and below another that is sought; the latter where none is.
@@ -40,13 +55,12 @@ fn first_sought(body: &[u8], from: u32, to: u32, sought: &Sought) -> u32
     ensures before { (m : ℕ) → from ≤ m → m < result → slice_index_or sought.now (pattern body.now m) false ≡ false }
     ensures found { result < to → slice_index_or sought.now (pattern body.now result) false ≡ true }
 {
-    let mut nth = from;
+    let mut nth = past_groups(body, from, to, sought);
     while nth < to {
-        let count = passed(body, nth, to, sought);
-        if count == 0 {
+        if sought.has(pattern(body, nth)) {
             return nth;
         }
-        nth += count;
+        nth = past_groups(body, nth + 1, to, sought);
     }
     to
 }
