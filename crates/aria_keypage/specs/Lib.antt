@@ -1,0 +1,5 @@
+pub mod Item
+pub mod Packed
+pub mod Raw
+pub mod Content
+pub mod Reading

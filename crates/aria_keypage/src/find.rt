@@ -1,0 +1,51 @@
+//! The search in packed items, which doesn't put any entry together.
+
+ghost use Rattle.std.specs.Prelude.{◌≡◌, ℕ, ◌<◌, ◌≤◌, List, length, true, drop};
+ghost use Rattle.std.specs.Ordering.{nat_cmp};
+ghost use Rattle.std.specs.Cmp.Lexicographic.{slice_cmp};
+ghost use Rattle.aria_keypage.specs.Item.{Item, is_below, IsPlace};
+ghost use Rattle.aria_keypage.specs.Packed.{common, ArePacked};
+
+use crate::order::compare;
+use crate::raw::{Raw, bytes_from, raw_at};
+use std::cmp::Ordering;
+
+// How many leading bytes an item's entry and the one that is sought have in common, and which comes first.
+//
+// What the entry before and the sought one have in common is `met`. An item that shares more than that
+// with the entry before differs from the sought one in the same byte, and isn't looked at.
+fn against(met: usize, raw: &Raw<'_>, entry: &[u8]) -> (usize, Ordering)
+    requires { met ≤ length entry.now }
+    ensures within { result.0 ≤ length entry.now }
+    ensures common { (before there : List ℕ) → met ≡ common before entry.now → raw.now.shared ≤ common before there → raw.now.rest.now ≡ drop raw.now.shared there → result.0 ≡ common there entry.now }
+    ensures order { (before there : List ℕ) → met ≡ common before entry.now → (met < length before → is_below before entry.now ≡ true) → raw.now.shared ≤ common before there → raw.now.rest.now ≡ drop raw.now.shared there → result.1 ≡ slice_cmp nat_cmp there entry.now }
+{
+    let shared = raw.shared as usize;
+    if shared > met {
+        return (met, Ordering::Less);
+    }
+    let (same, order) = compare(raw.rest, bytes_from(entry, shared));
+    (shared + same, order)
+}
+
+/// The place of the first entry that isn't below the given one, and whether they are the same.
+pub(crate) fn find_in(items: &[u8], width: usize, count: usize, entry: &[u8]) -> (usize, bool)
+    ensures { (xs : List Item) → ArePacked width xs items.now → count ≡ length xs → IsPlace entry.now xs result.0 result.1 }
+{
+    let mut rest = items;
+    let mut met = 0;
+    for at in 0..count {
+        let Some((raw, behind)) = raw_at(rest, width) else {
+            return (at, false);
+        };
+        let (same, order) = against(met, &raw, entry);
+        match order {
+            Ordering::Less => {}
+            Ordering::Equal => return (at, true),
+            Ordering::Greater => return (at, false),
+        }
+        met = same;
+        rest = behind;
+    }
+    (count, false)
+}
