@@ -5,3 +5,5 @@ pub mod Counted
 pub mod Read
 pub mod Options
 pub mod Sought
+pub mod Patch
+pub mod Spliced

@@ -97,3 +97,9 @@ common-both [] c k (suc n) h g = absurd (omega arith)
 common-both (x ∷ p) [] k (suc n) h g = absurd (omega arith)
 common-both (x ∷ p) (y ∷ c) [] (suc n) h g = absurd (omega arith)
 common-both (x ∷ p) (y ∷ c) (z ∷ k) (suc n) h g = grind (arith, nat_tests, common-both p c k n)
+
+-- what two have in common, they have in common the other way round
+pub common-turn : (a b : List ℕ) → common a b ≡ common b a
+common-turn [] b = sym (common-nil b)
+common-turn (x ∷ a) [] = refl
+common-turn (x ∷ a) (y ∷ b) = grind (arith, nat_tests, common-turn a b)

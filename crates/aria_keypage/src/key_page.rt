@@ -26,11 +26,11 @@ pub const LOW: usize = 2045;
 
 /// A leaf or a node of a key's tree, seen in its page.
 pub struct KeyPage<'a> {
-    leaf: bool,
-    key: u8,
-    first: u32,
-    items: &'a [u8],
-    count: usize,
+    pub(crate) leaf: bool,
+    pub(crate) key: u8,
+    pub(crate) first: u32,
+    pub(crate) items: &'a [u8],
+    pub(crate) count: usize,
 }
 
 impl<'a> Model for KeyPage<'a> {
@@ -46,7 +46,7 @@ impl<'a> Model for KeyPage<'a> {
 }
 
 // The size of a target or of a child, in bytes.
-fn width_of(leaf: bool) -> usize
+pub(crate) fn width_of(leaf: bool) -> usize
     ensures { result ≡ width leaf }
 {
     if leaf { 5 } else { 4 }
@@ -121,7 +121,8 @@ impl<'a> KeyPage<'a> {
 
     /// The number of items.
     pub fn count(&self) -> usize
-        ensures { result ≡ length self.now.items }
+        ensures count { result ≡ length self.now.items }
+        ensures content { IsContent self.now }
     {
         self.count
     }
@@ -142,8 +143,10 @@ impl<'a> KeyPage<'a> {
     }
 
     // The number of item bytes.
-    fn size(&self) -> usize
-        ensures { result ≡ length (item_bytes self.now) }
+    pub(crate) fn size(&self) -> usize
+        ensures size { result ≡ length (item_bytes self.now) }
+        ensures content { IsContent self.now }
+        ensures count { length self.now.items ≤ 8177 }
     {
         if self.leaf {
             return self.items.len();

@@ -8,6 +8,7 @@
 //! here asks that the entries rise, which is the tree's affair.
 #![tactic(auto)]
 
+mod change;
 mod count;
 mod find;
 mod key_page;
