@@ -1,0 +1,3 @@
+pub mod LogPage
+pub mod Frames
+pub mod Front

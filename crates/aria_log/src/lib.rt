@@ -1,0 +1,2 @@
+//! The log.
+#![tactic(auto)]
