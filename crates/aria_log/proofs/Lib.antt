@@ -1,2 +1,3 @@
 pub mod LogPages
 pub mod FrameLists
+pub mod Fronts

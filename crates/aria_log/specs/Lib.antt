@@ -1,3 +1,4 @@
 pub mod LogPage
 pub mod Frames
 pub mod Front
+pub mod Runs
