@@ -1,3 +1,4 @@
 pub mod LogPages
 pub mod FrameLists
 pub mod Fronts
+pub mod Images

@@ -1,5 +1,5 @@
 -- A run while it is written, and what a crash may leave of it.
-use Rattle.std.specs.Prelude.{◌≡◌, ◌⊎◌, ⊤, ℕ, ◌+◌, ◌≤◌, Bool, true, false, Option, None, Some, List, [], ◌∷◌, ◌++◌, length, unwrap_or}
+use Rattle.std.specs.Prelude.{◌≡◌, ◌⊎◌, ⊤, ℕ, ◌+◌, ◌≤◌, Bool, true, false, Option, None, Some, List, [], ◌∷◌, ◌++◌, length, take, unwrap_or}
 use Rattle.aria_log.specs.LogPage.{read_log_page}
 use Rattle.aria_log.specs.Front.{frames_of, end_of, damaged_at}
 
@@ -27,3 +27,15 @@ pub record IsWhole (pages frames : List (List ℕ)) : Type 0 where
 pub record HoldsFrames (content : Option (List (List ℕ))) (frames : List (List ℕ)) : Type 0 where
   pub frames_are : frames_of (unwrap_or content []) ≡ frames
   pub sound : damaged_at (unwrap_or content []) ≡ None
+
+-- the file, where it is there, holds a front of these frames that has the forced ones, and no damage
+pub record HoldsFrom (content : Option (List (List ℕ))) (frames : List (List ℕ)) (forced : ℕ) : Type 0 where
+  pub count : ℕ
+  pub from : forced ≤ count
+  pub within : count ≤ length frames
+  pub holds : HoldsFrames content (take count frames)
+
+-- whether the page behind the written ones of a run begins that run
+abbrev pub begins_next : List (List ℕ) → Bool
+begins_next [] = true
+begins_next (page ∷ pages) = false
