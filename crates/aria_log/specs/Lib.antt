@@ -2,3 +2,4 @@ pub mod LogPage
 pub mod Frames
 pub mod Front
 pub mod Runs
+pub mod Log
