@@ -6,3 +6,4 @@ pub mod Sealing
 pub mod Filled
 pub mod Writing
 pub mod Appending
+pub mod Forcing

@@ -29,7 +29,7 @@ impl Log {
     }
 
     // Writes the page that is filled at the end of the file. The next one goes on with its run.
-    fn write<H: Host>(&mut self, host: &mut H) -> Result<(), Fault>
+    pub(crate) fn write<H: Host>(&mut self, host: &mut H) -> Result<(), Fault>
         requires room { self.old.number < 2 ^ 31 }
         requires there { IsTrue H.tells → IsSome ((H.state host.old).folder log_file) }
         ensures wrote { IsTrue H.tells → (base written : List (List ℕ)) (before held : List ℕ)

@@ -7,6 +7,7 @@
 //! After a call has answered a fault the log isn't used again: it is opened anew.
 #![tactic(auto)]
 
+mod calls;
 mod filling;
 mod log;
 mod log_page;
