@@ -187,7 +187,7 @@ later_quiet closed n (whole ∷ written) (page ∷ pages) text (bytes, rest, rea
     ap (λ (o : Option Piece). option_map_or (λ (p : Piece). p.0) o false || begins_behind (n + 1) pages) (ap (read_log_page n) kept ∙ read) ∙ later_quiet closed (n + 1) written pages rest later part
 
 -- nothing begins behind no page
-quiet_nil : (n : ℕ) → begins_behind n [] ≡ false
+pub quiet_nil : (n : ℕ) → begins_behind n [] ≡ false
 unfolding begins_behind
 quiet_nil n = refl
 

@@ -7,3 +7,4 @@ pub mod Filled
 pub mod Writing
 pub mod Appending
 pub mod Forcing
+pub mod Starting

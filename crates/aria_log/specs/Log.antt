@@ -1,5 +1,5 @@
 -- The log as a value, and what its calls do to the folder.
-use Rattle.std.specs.Prelude.{◌≡◌, ◌⊎◌, ℕ, ◌+◌, ◌*◌, ◌≤◌, Bool, true, false, IsTrue, Option, Some, List, [], ◌∷◌, ◌++◌, length, take, drop, All}
+use Rattle.std.specs.Prelude.{◌≡◌, ◌⊎◌, ℕ, ◌+◌, ◌*◌, ◌≤◌, Bool, true, false, IsTrue, Option, None, Some, unwrap_or, List, [], ◌∷◌, ◌++◌, length, take, drop, All}
 use Rattle.aria_host.specs.declared.file_name.FileName.{FileName}
 use Rattle.aria_host.specs.declared.file_name.FileName.TheVariants.{Log}
 use Rattle.aria_host.specs.Folder.{Folder, same_file}
@@ -7,7 +7,8 @@ use Rattle.aria_host.specs.State.{State, LeavesOnly}
 use Rattle.aria_log.specs.declared.log.Log.{Log as LogValue}
 use Rattle.aria_log.specs.LogPage.{log_body}
 use Rattle.aria_log.specs.Frames.{IsFrame, frames_bytes}
-use Rattle.aria_log.specs.Runs.{IsRun, IsPartOf, IsWhole, HoldsFrom, begins_next}
+use Rattle.aria_log.specs.Runs.{IsRun, IsPartOf, IsWhole, HoldsFrames, HoldsFrom, begins_next}
+use Rattle.aria_log.specs.Front.{frames_of, end_of, damaged_at}
 
 -- the file of the log
 abbrev pub log_file : FileName
@@ -97,3 +98,30 @@ pub record Wrote (log : LogValue) (old new : State) (base written : List (List �
 pub record Adds (log : LogValue) (old new : State) (base : List (List ℕ)) (text : List ℕ) (done : Bool) : Type 0 where
   pub at : IsTrue done → IsAt log new base text
   pub keeps : LogMoments old new (IsImage base text)
+
+-- the pages of the log's file; none where it isn't there
+abbrev pub log_pages : Folder → List (List ℕ)
+log_pages folder = unwrap_or (folder log_file) []
+
+-- the log of a folder
+abbrev pub log_of : Folder → List (List ℕ)
+log_of folder = frames_of (log_pages folder)
+
+-- each crash leaves the log's file as it reads
+abbrev pub IsLogAtRest : State → Type 0
+IsLogAtRest s = (c : Folder) → s.may_leave c → c log_file ≡ s.folder log_file
+
+-- The log was opened: its end was found, and there is no damage. Nothing was changed, so nothing may be appended yet.
+pub record IsOpened (log : LogValue) (folder : Folder) : Type 0 where
+  pub sound : damaged_at (log_pages folder) ≡ None
+  pub fills : Fills log (end_of (log_pages folder)) true []
+
+-- the log's file was made or cut to its end, if it had to be
+pub record Prepared (log : LogValue) (old new : State) (done : Bool) : Type 0 where
+  pub keeps : LogMoments old new (λ content. HoldsFrames content (log_of old.folder))
+  pub folder : IsTrue done → new.folder log_file ≡ Some (take (end_of (log_pages old.folder)) (log_pages old.folder))
+  pub images : (c : Folder) → new.may_leave c → HoldsFrames (c log_file) (log_of old.folder)
+
+-- the log's file is there and has so many pages
+abbrev pub HasPages : ℕ → Folder → Type 0
+HasPages pages folder = (content : List (List ℕ)) × (folder log_file ≡ Some content) × (length content ≡ pages)

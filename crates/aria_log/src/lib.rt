@@ -11,5 +11,6 @@ mod calls;
 mod filling;
 mod log;
 mod log_page;
+mod start;
 
 pub use log::Log;
