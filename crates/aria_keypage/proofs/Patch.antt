@@ -57,15 +57,15 @@ patch-changes c d a m z new pc pd leaf key ec ed =
     record {
       within = ((omega arith, omega arith), (omega arith, (omega (arith, two), tt)));
       body = λ body len is.
-      let head : List ℕ = number 1 (kind c.leaf) ++ number 1 c.key in
-      let count : List ℕ = number 2 (length (item_bytes c)) in
-      let regrouped : (number 1 (kind c.leaf) ++ (number 1 c.key ++ (count ++ (a ++ (m ++ z))))) ++ is.behind ≡ head ++ (count ++ (a ++ (m ++ (z ++ is.behind)))) = simp append_assoc in
-      let parts : body ≡ head ++ (count ++ (a ++ (m ++ (z ++ is.behind)))) =
-      is.parts ∙ ap (λ (l : List ℕ). (number 1 (kind c.leaf) ++ (number 1 c.key ++ (count ++ l))) ++ is.behind) ec ∙ regrouped in
-      let long : length head ≡ 2 = omega (arith, length-append (number 1 (kind c.leaf)) (number 1 c.key), length-number 1 (kind c.leaf), length-number 1 c.key) in
-      let there = patched head count a m z is.behind new long (length-number 2 (length (item_bytes c))) (omega (arith, ap length parts)) in
-      let behind : List ℕ = there.0 in
-      let whole : front d ++ behind ≡ head ++ (number 2 (length a + length new + length z) ++ (a ++ (new ++ (z ++ behind)))) =
-      (λ i. (number 1 (kind (leaf i)) ++ (number 1 (key i) ++ (number 2 (size i) ++ ed i))) ++ behind) ∙ simp append_assoc in
-      record { content = pd; behind = behind; parts = ap (edited_by (patch (length a) (length m) (length z) new)) parts ∙ there.1 ∙ sym whole }
+          let head : List ℕ = number 1 (kind c.leaf) ++ number 1 c.key in
+          let count : List ℕ = number 2 (length (item_bytes c)) in
+          let regrouped : (number 1 (kind c.leaf) ++ (number 1 c.key ++ (count ++ (a ++ (m ++ z))))) ++ is.behind ≡ head ++ (count ++ (a ++ (m ++ (z ++ is.behind)))) = simp append_assoc in
+          let parts : body ≡ head ++ (count ++ (a ++ (m ++ (z ++ is.behind)))) =
+          is.parts ∙ ap (λ (l : List ℕ). (number 1 (kind c.leaf) ++ (number 1 c.key ++ (count ++ l))) ++ is.behind) ec ∙ regrouped in
+          let long : length head ≡ 2 = omega (arith, length-append (number 1 (kind c.leaf)) (number 1 c.key), length-number 1 (kind c.leaf), length-number 1 c.key) in
+          let there = patched head count a m z is.behind new long (length-number 2 (length (item_bytes c))) (omega (arith, ap length parts)) in
+          let behind : List ℕ = there.0 in
+          let whole : front d ++ behind ≡ head ++ (number 2 (length a + length new + length z) ++ (a ++ (new ++ (z ++ behind)))) =
+          (λ i. (number 1 (kind (leaf i)) ++ (number 1 (key i) ++ (number 2 (size i) ++ ed i))) ++ behind) ∙ simp append_assoc in
+          record { content = pd; behind = behind; parts = ap (edited_by (patch (length a) (length m) (length z) new)) parts ∙ there.1 ∙ sym whole };
     }

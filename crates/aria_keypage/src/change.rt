@@ -40,7 +40,13 @@ fn push_stored(out: &mut Vec<u8>, before: &[u8], entry: &[u8], to: &[u8]) -> Res
 }
 
 // Adds an item behind an entry.
-pub(crate) fn push_item(out: &mut Vec<u8>, leaf: bool, before: &[u8], entry: &[u8], to: u64) -> Result<(), AllocError>
+pub(crate) fn push_item(
+    out: &mut Vec<u8>,
+    leaf: bool,
+    before: &[u8],
+    entry: &[u8],
+    to: u64,
+) -> Result<(), AllocError>
     requires entry { length entry.now ≤ 1000 }
     requires to { to < 256 ^ width leaf }
     ensures { IfOk result (λ _. out.new.items ≡ out.old.items ++ packed_item (width leaf) before.now (record { entry = entry.now; to = to })) }
@@ -52,7 +58,13 @@ pub(crate) fn push_item(out: &mut Vec<u8>, leaf: bool, before: &[u8], entry: &[u
 }
 
 // The edits that put item bytes in the place of others, after so many of them and before so many.
-fn patch(alloc: Global, before: usize, old: usize, behind: usize, bytes: Vec<u8>) -> Result<List<Edit>, AllocError>
+fn patch(
+    alloc: Global,
+    before: usize,
+    old: usize,
+    behind: usize,
+    bytes: Vec<u8>,
+) -> Result<List<Edit>, AllocError>
     requires old { before + old + behind ≤ 8177 }
     requires new { before + length bytes.items + behind ≤ 8177 }
     ensures { IfOk result (λ edits. edits ≡ patch before old behind bytes.items) }
@@ -105,7 +117,13 @@ impl<'a> KeyPage<'a> {
     }
 
     // Adds the item at a place, where there is one, behind another entry.
-    fn push_behind(&self, alloc: Global, at: usize, entry: &[u8], out: &mut Vec<u8>) -> Result<(), AllocError>
+    fn push_behind(
+        &self,
+        alloc: Global,
+        at: usize,
+        entry: &[u8],
+        out: &mut Vec<u8>,
+    ) -> Result<(), AllocError>
         requires { at ≤ length self.now.items }
         ensures { IfOk result (λ _. out.new.items ≡ out.old.items ++ first_packed (width self.now.leaf) entry.now (drop at self.now.items)) }
     {
@@ -117,7 +135,13 @@ impl<'a> KeyPage<'a> {
     }
 
     /// The edits that put an item at a place. They bring at most 2018 bytes.
-    pub fn insert(&self, alloc: Global, at: usize, entry: &[u8], target: u64) -> Result<List<Edit>, AllocError>
+    pub fn insert(
+        &self,
+        alloc: Global,
+        at: usize,
+        entry: &[u8],
+        target: u64,
+    ) -> Result<List<Edit>, AllocError>
         requires at { at ≤ length self.now.items }
         requires entry { length entry.now ≤ 1000 }
         requires target { target < 256 ^ width self.now.leaf }

@@ -20,4 +20,4 @@ returns c =
     let next = c.as_slice.ensures ∙ c.in_ok-next.ensures in
     let first = first-at (width c.args.self.now.leaf) c.args.entry.now c.args.self.now.items c.args.at (omega arith) in
     ok-map c.push_item.result (λ _. c.push_item.new.out.items ≡ out ++ packed_item (width c.self.inside.leaf) c.args.entry.now (record { entry = c.as_slice.result.now; to = c.target_at.result })) _
-      (λ _ e. e ∙ (λ i. out ++ packed_item (leaf i) c.args.entry.now (record { entry = next i; to = c.target_at.ensures i })) ∙ ap (λ (l : List ℕ). out ++ l) (sym first)) c.push_item.ensures
+    (λ _ e. e ∙ (λ i. out ++ packed_item (leaf i) c.args.entry.now (record { entry = next i; to = c.target_at.ensures i })) ∙ ap (λ (l : List ℕ). out ++ l) (sym first)) c.push_item.ensures

@@ -9,7 +9,7 @@ returns-then-self c =
     record {
       size = leaf-size c.self.inside.leaf c.self.inside.key c.self.inside.first c.self.inside.items.now c.self.inside.count c.self.invariant c.if-self.true ∙ ap (λ (d : Content). length (item_bytes d)) c.self.view_is;
       content = content;
-      count = content-count _ content
+      count = content-count _ content;
     }
 
 pub returns : goal.returns
@@ -18,5 +18,5 @@ returns c =
     record {
       size = node-size c.self.inside.leaf c.self.inside.key c.self.inside.first c.self.inside.items.now c.self.inside.count c.self.invariant c.if-self.false ∙ ap (λ (d : Content). length (item_bytes d)) c.self.view_is;
       content = content;
-      count = content-count _ content
+      count = content-count _ content;
     }
