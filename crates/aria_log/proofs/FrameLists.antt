@@ -70,13 +70,13 @@ one_more : (frame : List ℕ) (frames found : List (List ℕ)) → HoldsFront fr
 one_more frame frames found h = record { count = suc h.count; within = omega (arith, h.within); front = ap (λ (l : List (List ℕ)). frame ∷ l) h.front }
 
 -- with no frame in front none is found
-none_within : (n : ℕ) (bytes : List ℕ) → frame_at bytes ≡ None → frames_within n bytes ≡ []
+pub none_within : (n : ℕ) (bytes : List ℕ) → frame_at bytes ≡ None → frames_within n bytes ≡ []
 unfolding frames_within
 none_within zero bytes none = refl
 none_within (suc n) bytes none = ap (λ (o : Option (List ℕ × List ℕ)). option_map_or (λ found. found.0 ∷ frames_within n found.1) o []) none
 
 -- a frame in front is found first
-some_within : (n : ℕ) (bytes frame rest : List ℕ) → frame_at bytes ≡ Some (frame, rest) → frames_within (suc n) bytes ≡ frame ∷ frames_within n rest
+pub some_within : (n : ℕ) (bytes frame rest : List ℕ) → frame_at bytes ≡ Some (frame, rest) → frames_within (suc n) bytes ≡ frame ∷ frames_within n rest
 unfolding frames_within
 some_within n bytes frame rest found = ap (λ (o : Option (List ℕ × List ℕ)). option_map_or (λ found. found.0 ∷ frames_within n found.1) o []) found
 

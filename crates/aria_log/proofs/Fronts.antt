@@ -15,15 +15,21 @@ abbrev Page : Type 0
 Page = List ℕ
 
 -- a page that reads and may stand there
-piece_some : (n : ℕ) (may : Bool) (page : Page) (piece : Piece) → read_log_page n page ≡ Some piece → (piece.0 || may) ≡ true → piece_at n may page ≡ Some piece
+pub piece_some : (n : ℕ) (may : Bool) (page : Page) (piece : Piece) → read_log_page n page ≡ Some piece → (piece.0 || may) ≡ true → piece_at n may page ≡ Some piece
 unfolding piece_at
 piece_some n may page piece read goes =
     ap (λ (o : Option Piece). o >>= (λ (p : Piece). cond (p.0 || may) (Some p) None)) read ∙ ap (λ (b : Bool). cond b (Some piece) None) goes
 
 -- a page that doesn't read
-piece_none : (n : ℕ) (may : Bool) (page : Page) → read_log_page n page ≡ None → piece_at n may page ≡ None
+pub piece_none : (n : ℕ) (may : Bool) (page : Page) → read_log_page n page ≡ None → piece_at n may page ≡ None
 unfolding piece_at
 piece_none n may page none = ap (λ (o : Option Piece). o >>= (λ (p : Piece). cond (p.0 || may) (Some p) None)) none
+
+-- a page that reads and may not stand there
+pub piece_other : (n : ℕ) (may : Bool) (page : Page) (piece : Piece) → read_log_page n page ≡ Some piece → (piece.0 || may) ≡ false → piece_at n may page ≡ None
+unfolding piece_at
+piece_other n may page piece read loose =
+    ap (λ (o : Option Piece). o >>= (λ (p : Piece). cond (p.0 || may) (Some p) None)) read ∙ ap (λ (b : Bool). cond b (Some piece) None) loose
 
 -- the front goes on over a page
 pub front_some : (n : ℕ) (may : Bool) (page : Page) (pages : List Page) (piece : Piece) → piece_at n may page ≡ Some piece

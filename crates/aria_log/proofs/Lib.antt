@@ -8,3 +8,6 @@ pub mod Writing
 pub mod Appending
 pub mod Forcing
 pub mod Starting
+pub mod PageReads
+pub mod Collecting
+pub mod Opening

@@ -121,3 +121,12 @@ pub zero_reads : (n : ℕ) → read_log_page n zero_page ≡ None
 unfolding zero_page
 zero_reads n = no_read n (replicate 8192 0) (λ (begins : Bool) (bytes : List ℕ) (is : IsLogPage n begins bytes (replicate 8192 0)).
     let mark : 0 ≡ 10 = ap (λ (l : List ℕ). slice_index l 11) is.spelled ∙ mark-log_page n begins bytes in omega (arith, mark))
+
+-- a valid page says what it holds
+pub valid_says : (n : ℕ) (begins : Bool) (bytes page : List ℕ) → IsLogPage n begins bytes page → (says_begins page ≡ begins) × (says_used page ≡ bytes)
+valid_says n begins bytes page is = (ap says_begins is.spelled ∙ says_begins-log_page n begins bytes, ap says_used is.spelled ∙ says_used-log_page n begins bytes is.fits)
+
+-- a valid page says how many of its bytes are used
+pub valid_counts : (n : ℕ) (begins : Bool) (bytes page : List ℕ) → IsLogPage n begins bytes page → number_of 2 (drop 14 page) ≡ length bytes
+valid_counts n begins bytes page is =
+    ap (λ (l : List ℕ). number_of 2 (drop 14 l)) is.spelled ∙ ap (number_of 2) (count-log_page n begins bytes) ∙ number_of-number 2 (length bytes) (log_body bytes) (omega (arith, is.fits))

@@ -3,3 +3,4 @@ pub mod Frames
 pub mod Front
 pub mod Runs
 pub mod Log
+pub mod Collected

@@ -11,6 +11,8 @@ mod calls;
 mod filling;
 mod log;
 mod log_page;
+mod reader;
+mod reading;
 mod start;
 
 pub use log::Log;

@@ -1,0 +1,40 @@
+-- A page that is collected takes no frame away and adds none.
+use Rattle.std.proofs.Common.{◌≡◌, ◌==◌, ◌||◌, ℕ, suc, ◌+◌, Bool, true, false, cond, Option, Some, None, List, [], ◌∷◌, ◌++◌, length, refl, sym, ◌∙◌, ap, append_assoc}
+use Rattle.std.specs.List.{flat_map}
+use Rattle.std.proofs.lemmas.List.{append-nil}
+use Rattle.aria_log.specs.LogPage.{read_log_page}
+use Rattle.aria_log.specs.Frames.{frames_in, frames_within}
+use Rattle.aria_log.specs.Front.{Piece, is_full, piece_at, front, run_rest, runs, frames_of_runs}
+use Rattle.aria_log.specs.Collected.{all_frames}
+use Rattle.aria_log.proofs.Fronts.{front_some, front_none, piece_some, piece_none, piece_other}
+
+-- a piece was collected
+piece_collected : (begins : Bool) (bytes run : List ℕ) (frames : List (List ℕ)) (pieces : List Piece)
+    → all_frames frames run ((begins, bytes) ∷ pieces) ≡ all_frames (frames ++ cond begins (frames_in run) []) (cond begins [] run ++ bytes) pieces
+unfolding all_frames run_rest runs frames_of_runs
+piece_collected true bytes run frames pieces =
+    ap (λ (l : List ℕ). frames ++ (frames_in l ++ flat_map frames_in ((bytes ++ run_rest pieces) ∷ runs pieces))) (append-nil run)
+    ∙ sym (append_assoc frames (frames_in run) (frames_in (bytes ++ run_rest pieces) ++ flat_map frames_in (runs pieces)))
+piece_collected false bytes run frames pieces =
+    ap (λ (l : List ℕ). frames ++ (frames_in l ++ flat_map frames_in (runs pieces))) (sym (append_assoc run bytes (run_rest pieces)))
+    ∙ ap (λ (l : List (List ℕ)). l ++ (frames_in ((run ++ bytes) ++ run_rest pieces) ++ flat_map frames_in (runs pieces))) (sym (append-nil frames))
+
+-- the page was in the valid front
+pub page_taken : (n : ℕ) (may may' : Bool) (page : List ℕ) (pages : List (List ℕ)) (begins : Bool) (bytes run run' : List ℕ) (frames frames' : List (List ℕ)) → read_log_page n page ≡ Some (begins, bytes) → (begins || may) ≡ true
+    → may' ≡ (length bytes == 8176) → frames' ≡ frames ++ cond begins (frames_in run) [] → run' ≡ cond begins [] run ++ bytes
+    → (length (front n may (page ∷ pages)) ≡ suc (length (front (n + 1) may' pages))) × (all_frames frames run (front n may (page ∷ pages)) ≡ all_frames frames' run' (front (n + 1) may' pages))
+page_taken n may may' page pages begins bytes run run' frames frames' read goes full frames_are run_is =
+    let is : front n may (page ∷ pages) ≡ (begins, bytes) ∷ front (n + 1) may' pages =
+    front_some n may page pages (begins, bytes) (piece_some n may page (begins, bytes) read goes) ∙ ap (λ (b : Bool). (begins, bytes) ∷ front (n + 1) b pages) (sym full) in (
+      ap length is,
+      ap (all_frames frames run) is ∙ piece_collected begins bytes run frames (front (n + 1) may' pages)
+          ∙ ap (λ (l : List (List ℕ)). all_frames l (cond begins [] run ++ bytes) (front (n + 1) may' pages)) (sym frames_are)
+          ∙ ap (λ (l : List ℕ). all_frames frames' l (front (n + 1) may' pages)) (sym run_is),
+    )
+
+-- the page isn't valid, or goes on with nothing
+pub page_unread : (n : ℕ) (may : Bool) (page : List ℕ) (pages : List (List ℕ)) → read_log_page n page ≡ None → front n may (page ∷ pages) ≡ []
+page_unread n may page pages none = front_none n may page pages (piece_none n may page none)
+
+pub page_loose : (n : ℕ) (may : Bool) (page : List ℕ) (pages : List (List ℕ)) (begins : Bool) (bytes : List ℕ) → read_log_page n page ≡ Some (begins, bytes) → (begins || may) ≡ false → front n may (page ∷ pages) ≡ []
+page_loose n may page pages begins bytes read loose = front_none n may page pages (piece_other n may page (begins, bytes) read loose)

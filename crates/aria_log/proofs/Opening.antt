@@ -1,0 +1,140 @@
+-- The pages of the log's file are read one after the other, and nothing changes.
+use Rattle.std.proofs.Common.{◌≡◌, ◌||◌, ◌⊎◌, inl, inr, ⊎_elim, ℕ, zero, suc, ◌+◌, ◌-◌, ◌<◌, ◌≤◌, Bool, true, false, cond, IsTrue, Option, None, Some, unwrap_or, List, [], ◌∷◌, ◌++◌, length, take, drop, refl, sym, ◌∙◌, ap, subst, arith, add-one}
+use Rattle.std.specs.Prelude.{slice_get, option_and_then}
+use Rattle.std.specs.Option.{option_map_or}
+use Rattle.std.specs.Bool.{MatchBool}
+use Rattle.std.proofs.lemmas.List.{drop_all, append-nil}
+use Rattle.std.proofs.lemmas.Option.{same_Some}
+use Rattle.aria_host.specs.declared.file_name.FileName.{FileName}
+use Rattle.aria_host.specs.Folder.{Folder, page_at, page_count}
+use Rattle.aria_host.specs.State.{State, Elapses}
+use Rattle.aria_host.specs.Calls.{SameImages, TellsNothing, Unchanged, IsPage}
+use Rattle.aria_log.specs.LogPage.{read_log_page}
+use Rattle.aria_log.specs.Frames.{frames_in, frames_within}
+use Rattle.aria_log.specs.Front.{Piece, is_full, front, runs, run_rest, frames_of_runs, frames_of, end_of, begins_behind}
+use Rattle.aria_log.specs.Collected.{all_frames}
+use Rattle.aria_log.specs.Log.{log_file, log_pages, log_of}
+use Rattle.aria_log.proofs.Fronts.{front_nil, front_some, front_none, piece_some, piece_none, piece_other, quiet_nil}
+
+-- nothing happened
+pub unchanged_now : (s : State) → ((t : ℕ) (c : Folder) (b : List ℕ) → s.since t c b → s.since t c b) → Unchanged s s
+unchanged_now s id = record {
+  folder = refl;
+  images = record { no_more = λ c leaves. leaves; no_fewer = λ c leaves. leaves };
+  tells = record { out = refl; err = refl; time = record { later = omega arith; nothing_else = λ t c b le left. inl left; keeps = λ t c b le left. left } };
+}
+
+-- a look after a look
+pub unchanged_after : (a b c : State) → Unchanged a b → Unchanged b c → Unchanged a c
+unchanged_after a b c first second = record {
+  folder = second.folder ∙ first.folder;
+  images = record {
+    no_more = λ f leaves. first.images.no_more f (second.images.no_more f leaves);
+    no_fewer = λ f leaves. second.images.no_fewer f (first.images.no_fewer f leaves);
+  };
+  tells = record {
+    out = second.tells.out ∙ first.tells.out;
+    err = second.tells.err ∙ first.tells.err;
+    time = record {
+      later = omega (arith, first.tells.time.later, second.tells.time.later);
+      nothing_else = λ t f told le left.
+          ⊎_elim (λ was.
+          ⊎_elim (λ before. inl before)
+          (λ now. inr (second.images.no_fewer f now.0, now.1, now.2))
+          (first.tells.time.nothing_else t f told le was))
+          (λ now. inr (now.0, now.1, now.2 ∙ ap (λ (l : List ℕ). l ++ take now.1 []) first.tells.out))
+          (second.tells.time.nothing_else t f told (omega (arith, le, first.tells.time.later)) left);
+      keeps = λ t f told le left. second.tells.time.keeps t f told (omega (arith, le, first.tells.time.later)) (first.tells.time.keeps t f told le left);
+    };
+  };
+}
+
+-- a page of a list that is there
+get_drop : (n : ℕ) (pages : List (List ℕ)) (page : List ℕ) → slice_get pages n ≡ Some page → drop n pages ≡ page ∷ drop (n + 1) pages
+get_drop n [] page e = absurd (cc)
+get_drop zero (p ∷ pages) page e = ap (λ (q : List ℕ). q ∷ pages) (same_Some p page e)
+get_drop (suc n) (p ∷ pages) page e =
+    let next : suc n + 1 ≡ suc (n + 1) = omega arith in
+    get_drop n pages page e ∙ ap (λ (k : ℕ). page ∷ drop k (p ∷ pages)) (sym next)
+
+-- the page that was read is the next one
+pub read_next : (n : ℕ) (folder : Folder) (page : List ℕ) → IsPage log_file n folder page → drop n (log_pages folder) ≡ page ∷ drop (n + 1) (log_pages folder)
+read_next n folder page is = by_file (folder log_file) is
+  where
+    by_file : (o : Option (List (List ℕ))) → option_and_then (λ (pages : List (List ℕ)). slice_get pages n) o ≡ Some page → drop n (unwrap_or o []) ≡ page ∷ drop (n + 1) (unwrap_or o [])
+    by_file None e = absurd (cc)
+    by_file (Some pages) e = get_drop n pages page e
+
+-- how many pages the file has
+pub count_is : (folder : Folder) → length (log_pages folder) ≡ page_count log_file folder
+count_is folder = by_file (folder log_file)
+  where
+    by_file : (o : Option (List (List ℕ))) → length (unwrap_or o []) ≡ option_map_or length o 0
+    by_file None = refl
+    by_file (Some pages) = refl
+
+-- nothing more comes in front
+pub all_collected : (frames : List (List ℕ)) (run : List ℕ) (pieces : List Piece) → pieces ≡ [] → all_frames frames run pieces ≡ frames ++ frames_in run
+unfolding all_frames run_rest runs frames_of_runs
+all_collected frames run [] e =
+    ap (λ (l : List (List ℕ)). frames ++ l) (append-nil (frames_in (run ++ []))) ∙ ap (λ (l : List ℕ). frames ++ frames_in l) (append-nil run)
+all_collected frames run (p ∷ pieces) e = absurd (cc)
+
+-- the rest of a run before no page, and before one that begins a run
+rest_nil : run_rest [] ≡ []
+unfolding run_rest
+rest_nil = refl
+
+rest_of_beginning : (bytes : List ℕ) (pieces : List Piece) → run_rest ((true, bytes) ∷ pieces) ≡ []
+unfolding run_rest
+rest_of_beginning bytes pieces = refl
+
+-- no byte holds a frame
+frames_in_nil : frames_in [] ≡ []
+unfolding frames_in frames_within
+frames_in_nil = refl
+
+-- a front that may not go on with a run begins with none's rest
+first_begins : (n : ℕ) (pages : List (List ℕ)) → run_rest (front n false pages) ≡ []
+first_begins n [] = ap run_rest (front_nil n false) ∙ rest_nil
+first_begins n (page ∷ pages) = by_read (read_log_page n page) refl
+  where
+    by_read : (o : Option Piece) → read_log_page n page ≡ o → run_rest (front n false (page ∷ pages)) ≡ []
+    by_read None none = ap run_rest (front_none n false page pages (piece_none n false page none)) ∙ rest_nil
+    by_read (Some (true, bytes)) some = ap run_rest (front_some n false page pages (true, bytes) (piece_some n false page (true, bytes) some refl)) ∙ rest_of_beginning bytes (front (n + 1) (is_full (true, bytes)) pages)
+    by_read (Some (false, bytes)) some = ap run_rest (front_none n false page pages (piece_other n false page (false, bytes) some refl)) ∙ rest_nil
+
+-- What was read of the front: so many pages, with the frames collected.
+pub record IsRead (pages : List (List ℕ)) (number : ℕ) (frames : List (List ℕ)) (run : List ℕ) (full : Bool) : Type 0 where
+  pub ends : end_of pages ≡ number + length (front number full (drop number pages))
+  pub frames_are : frames_of pages ≡ all_frames frames run (front number full (drop number pages))
+
+-- one page on
+pub read_on : (pages : List (List ℕ)) (number : ℕ) (frames frames' : List (List ℕ)) (run run' : List ℕ) (full full' : Bool) (page : List ℕ) → IsRead pages number frames run full → drop number pages ≡ page ∷ drop (number + 1) pages
+    → (length (front number full (page ∷ drop (number + 1) pages)) ≡ suc (length (front (number + 1) full' (drop (number + 1) pages))))
+    × (all_frames frames run (front number full (page ∷ drop (number + 1) pages)) ≡ all_frames frames' run' (front (number + 1) full' (drop (number + 1) pages)))
+    → IsRead pages (number + 1) frames' run' full'
+read_on pages number frames frames' run run' full full' page is next taken = record {
+  ends = is.ends ∙ ap (λ (l : List (List ℕ)). number + length (front number full l)) next ∙ ap (λ (k : ℕ). number + k) taken.0 ∙ omega arith;
+  frames_are = is.frames_are ∙ ap (λ (l : List (List ℕ)). all_frames frames run (front number full l)) next ∙ taken.1;
+}
+
+-- the front ends here
+pub read_ends : (pages : List (List ℕ)) (number : ℕ) (frames : List (List ℕ)) (run : List ℕ) (full : Bool) → IsRead pages number frames run full → front number full (drop number pages) ≡ []
+    → (number ≡ end_of pages) × (frames_of pages ≡ frames ++ frames_in run)
+read_ends pages number frames run full is none =
+    (sym (is.ends ∙ ap (λ (l : List Piece). number + length l) none ∙ omega arith), is.frames_are ∙ all_collected frames run (front number full (drop number pages)) none)
+
+-- before the first page nothing is collected
+none_collected : (pages : List (List ℕ)) (full : Bool) → full ≡ false → all_frames [] [] (front 0 full pages) ≡ frames_of_runs (front 0 full pages)
+unfolding all_frames
+none_collected pages full e =
+    ap (λ (l : List ℕ). frames_in l ++ frames_of_runs (front 0 full pages)) (ap (λ (b : Bool). run_rest (front 0 b pages)) e ∙ first_begins 0 pages) ∙ ap (λ (l : List (List ℕ)). l ++ frames_of_runs (front 0 full pages)) frames_in_nil
+
+-- no page was read yet
+pub read_none : (pages frames : List (List ℕ)) (run : List ℕ) (full : Bool) → frames ≡ [] → run ≡ [] → full ≡ false → IsRead pages 0 frames run full
+unfolding end_of frames_of
+read_none pages frames run full f r e = record {
+  ends = ap (λ (b : Bool). length (front 0 b pages)) (sym e) ∙ omega arith;
+  frames_are = ap (λ (b : Bool). frames_of_runs (front 0 b pages)) (sym e) ∙ sym (ap (λ (l : List (List ℕ)). all_frames l run (front 0 full pages)) f ∙ ap (λ (l : List ℕ). all_frames [] l (front 0 full pages)) r ∙ none_collected pages full e);
+}

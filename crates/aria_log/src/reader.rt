@@ -1,0 +1,86 @@
+//! Collects the frames of the log, page after page.
+
+ghost use Rattle.std.specs.Prelude.{◌≡◌, ◌+◌, ◌++◌, ◌∷◌, [], suc, length, IfOk, OnOk, List as Seq, ℕ, false, ◌==◌, if◌then◌else◌};
+ghost use Rattle.std.specs.Bool.{MatchBool};
+ghost use Rattle.aria_log.specs.Frames.{frames_in};
+ghost use Rattle.aria_log.specs.Front.{front};
+ghost use Rattle.aria_log.specs.Collected.{all_frames};
+
+use crate::log_page::BODY_BYTES;
+use crate::reading::{push_frames, read_page_of};
+use aria_page::{Bytes, List, Page};
+use std::alloc::{AllocError, Global};
+
+/// What was read of the valid front: the frames of the runs before, the used bytes of the run that goes on, and
+/// whether its last page is full.
+#[derive(Drop)]
+pub(crate) struct Reader {
+    pub(crate) frames: List<Bytes>,
+    run: Bytes,
+    full: bool,
+}
+
+impl Reader {
+    pub(crate) fn new(alloc: Global) -> Reader
+        ensures frames { result.frames ≡ [] }
+        ensures run { result.run ≡ [] }
+        ensures full { result.full ≡ false }
+    {
+        Reader {
+            frames: List::new(alloc),
+            run: Bytes::new(alloc),
+            full: false,
+        }
+    }
+
+    /// Ends the run: its whole frames join those before.
+    pub(crate) fn end_run(&mut self, alloc: Global) -> Result<(), AllocError>
+        ensures frames { OnOk result (self.new.frames ≡ self.old.frames ++ frames_in self.old.run) }
+        ensures run { OnOk result (self.new.run ≡ []) }
+    {
+        push_frames(alloc, &mut self.frames, self.run.as_slice())?;
+        self.run.clear();
+        Ok(())
+    }
+
+    // Adds the bytes of a page that begins a run or goes on with one.
+    fn put(&mut self, alloc: Global, begins: bool, bytes: &[u8]) -> Result<(), AllocError>
+        ensures frames { OnOk result (self.new.frames ≡ self.old.frames ++ (if begins then frames_in self.old.run else [])) }
+        ensures run { OnOk result (self.new.run ≡ (if begins then [] else self.old.run) ++ bytes.now) }
+        ensures full { OnOk result (self.new.full ≡ (length bytes.now == 8176)) }
+    {
+        if begins {
+            self.end_run(alloc)?;
+        }
+        self.run.extend_from_slice(bytes)?;
+        self.full = bytes.len() == BODY_BYTES;
+        Ok(())
+    }
+
+    /// Takes the next page, and says whether it is in the valid front.
+    pub(crate) fn take(
+        &mut self,
+        alloc: Global,
+        number: u32,
+        page: &Page,
+    ) -> Result<bool, AllocError>
+        ensures taken { IfOk result (λ taken. (pages : Seq (Seq ℕ))
+            → MatchBool taken
+            ((length (front number self.old.full (page.now ∷ pages)) ≡ suc (length (front (number + 1) self.new.full pages)))
+            × (all_frames self.old.frames self.old.run (front number self.old.full (page.now ∷ pages)) ≡ all_frames self.new.frames self.new.run (front (number + 1) self.new.full pages)))
+            ((front number self.old.full (page.now ∷ pages) ≡ []) × (self.new.frames ≡ self.old.frames) × (self.new.run ≡ self.old.run))) }
+    {
+        match read_page_of(number, page) {
+            None => Ok(false),
+            Some((begins, bytes)) => {
+                let mut goes_on = begins;
+                goes_on |= self.full;
+                if !goes_on {
+                    return Ok(false);
+                }
+                self.put(alloc, begins, bytes)?;
+                Ok(true)
+            }
+        }
+    }
+}
