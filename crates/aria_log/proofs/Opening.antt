@@ -138,3 +138,53 @@ read_none pages frames run full f r e = record {
   ends = ap (λ (b : Bool). length (front 0 b pages)) (sym e) ∙ omega arith;
   frames_are = ap (λ (b : Bool). frames_of_runs (front 0 b pages)) (sym e) ∙ sym (ap (λ (l : List (List ℕ)). all_frames l run (front 0 full pages)) f ∙ ap (λ (l : List ℕ). all_frames [] l (front 0 full pages)) r ∙ none_collected pages full e);
 }
+
+-- the page that was read is the next one, where the folder is as it was
+pub page_next : (n : ℕ) (folder now : Folder) (page : List ℕ) → now ≡ folder → IsPage log_file n now page → drop n (log_pages folder) ≡ page ∷ drop (n + 1) (log_pages folder)
+page_next n folder now page same is = read_next n folder page (subst (λ (f : Folder). IsPage log_file n f page) same is)
+
+-- what a choice gives
+when_true : (b : Bool) (A B : Type 0) → MatchBool b A B → b ≡ true → A
+when_true true A B h e = h
+when_true false A B h e = absurd (cc)
+
+when_false : (b : Bool) (A B : Type 0) → MatchBool b A B → b ≡ false → B
+when_false true A B h e = absurd (cc)
+when_false false A B h e = h
+
+-- what a page that was looked at does to the front
+abbrev pub Taken : Bool → ℕ → List (List ℕ) → List (List ℕ) → List ℕ → List ℕ → Bool → Bool → List ℕ → List (List ℕ) → Type 0
+Taken taken number frames frames' run run' full full' page pages = MatchBool taken
+    ((length (front number full (page ∷ pages)) ≡ suc (length (front (number + 1) full' pages))) × (all_frames frames run (front number full (page ∷ pages)) ≡ all_frames frames' run' (front (number + 1) full' pages)))
+    ((front number full (page ∷ pages) ≡ []) × (frames' ≡ frames) × (run' ≡ run))
+
+-- the page is in the front
+pub read_taken : (pages : List (List ℕ)) (number : ℕ) (frames frames' : List (List ℕ)) (run run' : List ℕ) (full full' : Bool) (page : List ℕ) (taken : Bool) → IsRead pages number frames run full
+    → drop number pages ≡ page ∷ drop (number + 1) pages → Taken taken number frames frames' run run' full full' page (drop (number + 1) pages) → taken ≡ true → IsRead pages (number + 1) frames' run' full'
+read_taken pages number frames frames' run run' full full' page taken is next found yes' = read_on pages number frames frames' run run' full full' page is next (when_true taken _ _ found yes')
+
+-- the page is not in the front, which ends before it
+pub read_stops : (pages : List (List ℕ)) (number : ℕ) (frames frames' : List (List ℕ)) (run run' : List ℕ) (full full' : Bool) (page : List ℕ) (taken : Bool) → IsRead pages number frames run full
+    → drop number pages ≡ page ∷ drop (number + 1) pages → Taken taken number frames frames' run run' full full' page (drop (number + 1) pages) → taken ≡ false → (number ≡ end_of pages) × (frames_of pages ≡ frames' ++ frames_in run')
+read_stops pages number frames frames' run run' full full' page taken is next found stopped =
+    let (none, same_frames, same_run) = when_false taken _ _ found stopped in
+    let ends = read_ends pages number frames run full is (ap (front number full) next ∙ none) in
+    (ends.0, ends.1 ∙ ap (λ (l : List (List ℕ)). l ++ frames_in run) (sym same_frames) ∙ ap (λ (l : List ℕ). frames' ++ frames_in l) (sym same_run))
+
+-- all pages were read
+pub read_past : (pages : List (List ℕ)) (number : ℕ) (frames : List (List ℕ)) (run : List ℕ) (full : Bool) → IsRead pages number frames run full → length pages ≤ number → (number ≡ end_of pages) × (frames_of pages ≡ frames ++ frames_in run)
+read_past pages number frames run full is past = read_ends pages number frames run full is (ap (front number full) (drop_all number pages past) ∙ front_nil number full)
+
+-- a page that begins no run, one that does, and no page
+pub not_begun : (n : ℕ) (pages : List (List ℕ)) (page : List ℕ) (r : Bool) → drop n pages ≡ page ∷ drop (n + 1) pages → r ≡ option_map_or (λ (piece : Piece). piece.0) (read_log_page n page) false → r ≡ false
+    → begins_behind n (drop n pages) ≡ begins_behind (n + 1) (drop (n + 1) pages)
+unfolding begins_behind
+not_begun n pages page r next is none = ap (begins_behind n) next ∙ ap (λ (b : Bool). b || begins_behind (n + 1) (drop (n + 1) pages)) (sym is ∙ none)
+
+pub begun : (n : ℕ) (pages : List (List ℕ)) (page : List ℕ) (r : Bool) → drop n pages ≡ page ∷ drop (n + 1) pages → r ≡ option_map_or (λ (piece : Piece). piece.0) (read_log_page n page) false → r ≡ true
+    → begins_behind n (drop n pages) ≡ true
+unfolding begins_behind
+begun n pages page r next is some = ap (begins_behind n) next ∙ ap (λ (b : Bool). b || begins_behind (n + 1) (drop (n + 1) pages)) (sym is ∙ some)
+
+pub none_begun : (n : ℕ) (pages : List (List ℕ)) → length pages ≤ n → begins_behind n (drop n pages) ≡ false
+none_begun n pages past = ap (begins_behind n) (drop_all n pages past) ∙ quiet_nil n

@@ -11,6 +11,7 @@ mod calls;
 mod filling;
 mod log;
 mod log_page;
+mod open;
 mod reader;
 mod reading;
 mod start;

@@ -1,0 +1,71 @@
+//! Opens the log: finds its end, and reads its frames.
+
+ghost use Rattle.std.specs.Prelude.{◌≡◌, ◌≤◌, ◌+◌, ◌++◌, [], length, drop, false, IfOk, IfErr, IsTrue};
+ghost use Rattle.std.specs.Option.{option_map_or};
+ghost use Rattle.aria_log.specs.LogPage.{read_log_page};
+ghost use Rattle.aria_host.specs.Calls.{HasDiskCause, HasDiskOrMemoryCause, Unchanged};
+ghost use Rattle.aria_log.specs.Frames.{frames_in};
+ghost use Rattle.aria_log.specs.Front.{begins_behind, end_of};
+ghost use Rattle.aria_log.specs.Log.{log_pages, log_of};
+
+use crate::log_page::FILE;
+use crate::reader::Reader;
+use crate::reading::read_page_of;
+use aria_host::{Fault, FileName, Host};
+use aria_page::Page;
+use std::alloc::Global;
+
+// Reads the pages of the valid front, and says how many there are.
+fn read_front<H: Host>(
+    alloc: Global,
+    host: &mut H,
+    pages: u32,
+    reader: &mut Reader,
+) -> Result<u32, Fault>
+    requires pages { IsTrue H.tells → pages ≡ length (log_pages (H.state host.old).folder) }
+    requires frames { reader.old.frames ≡ [] }
+    requires run { reader.old.run ≡ [] }
+    requires full { reader.old.full ≡ false }
+    ensures end { IsTrue H.tells → IfOk result (λ number. number ≡ end_of (log_pages (H.state host.old).folder)) }
+    ensures frames { IsTrue H.tells → IfOk result (λ _. log_of (H.state host.old).folder ≡ reader.new.frames ++ frames_in reader.new.run) }
+    ensures within { IfOk result (λ number. number ≤ pages) }
+    ensures same { IsTrue H.tells → Unchanged (H.state host.old) (H.state host.new) }
+    ensures cause { HasDiskOrMemoryCause (H.state host.old) (H.state host.new) result }
+{
+    let mut page = Page::zero();
+    for number in 0..pages {
+        host.read_page(&FileName::Log(FILE), number, &mut page)?;
+        if !reader.take(alloc, number, &page)? {
+            return Ok(number);
+        }
+    }
+    Ok(pages)
+}
+
+// Whether the page begins a run.
+fn begins_run(number: u32, page: &Page) -> bool
+    ensures { result ≡ option_map_or (λ piece. piece.0) (read_log_page number page.now) false }
+{
+    match read_page_of(number, page) {
+        None => false,
+        Some((begins, _)) => begins,
+    }
+}
+
+// Whether a page from this one on begins a run.
+fn begins_from<H: Host>(host: &mut H, from: u32, pages: u32) -> Result<bool, Fault>
+    requires pages { IsTrue H.tells → pages ≡ length (log_pages (H.state host.old).folder) }
+    requires within { from ≤ pages }
+    ensures found { IsTrue H.tells → IfOk result (λ found. found ≡ begins_behind from (drop from (log_pages (H.state host.old).folder))) }
+    ensures same { IsTrue H.tells → Unchanged (H.state host.old) (H.state host.new) }
+    ensures cause { HasDiskCause (H.state host.old) (H.state host.new) result }
+{
+    let mut page = Page::zero();
+    for number in from..pages {
+        host.read_page(&FileName::Log(FILE), number, &mut page)?;
+        if begins_run(number, &page) {
+            return Ok(true);
+        }
+    }
+    Ok(false)
+}
