@@ -1,13 +1,12 @@
 -- Bytes behind bytes: what was appended to the log, over several writes.
-use Rattle.std.proofs.Common.{◌≡◌, ◌⊎◌, inl, inr, ℕ, zero, suc, ◌+◌, ◌-◌, ◌<◌, ◌≤◌, Bool, true, false, IsTrue, Option, None, Some, List, [], ◌∷◌, ◌++◌, length, take, drop, refl, sym, ◌∙◌, ap, subst, arith, append_assoc, length-append}
-use Rattle.std.proofs.lemmas.List.{append-nil, length_push, drop_more, take_more, drop-drop, drop-take, take-append-drop, take-take, take_all}
-use Rattle.aria_host.specs.declared.file_name.FileName.{FileName}
+use Rattle.std.proofs.Common.{◌≡◌, inr, ℕ, ◌+◌, ◌≤◌, Bool, true, false, IsTrue, Option, List, [], ◌∷◌, ◌++◌, length, take, drop, refl, sym, ◌∙◌, ap, subst, arith, append_assoc}
+use Rattle.std.proofs.lemmas.List.{append-nil, length_push, drop-take, take-append-drop, take-take, take_all}
 use Rattle.aria_host.specs.Folder.{Folder}
 use Rattle.aria_host.specs.State.{State}
 use Rattle.aria_host.proofs.Moments.{started}
 use Rattle.aria_log.specs.declared.log.Log.{Log as LogValue}
-use Rattle.aria_log.specs.Runs.{IsRun, IsPartOf, begins_next}
-use Rattle.aria_log.specs.Log.{log_file, SameOthers, LeavesOthers, AtLog, LogMoments, IsImage, IsWriting, Fills, IsAt, Wrote, Adds}
+use Rattle.aria_log.specs.Runs.{begins_next}
+use Rattle.aria_log.specs.Log.{log_file, AtLog, LogMoments, IsImage, Fills, IsAt, Wrote, Adds}
 use Rattle.aria_log.proofs.Images.{run_closed}
 use Rattle.aria_log.proofs.Writing.{OnlyNow, one_after, more_at_log}
 

@@ -1,10 +1,10 @@
 -- A page that is collected takes no frame away and adds none.
-use Rattle.std.proofs.Common.{◌≡◌, ◌==◌, ◌||◌, ℕ, suc, ◌+◌, Bool, true, false, cond, Option, Some, None, List, [], ◌∷◌, ◌++◌, length, refl, sym, ◌∙◌, ap, append_assoc}
+use Rattle.std.proofs.Common.{◌≡◌, ◌==◌, ◌||◌, ℕ, suc, ◌+◌, Bool, true, false, cond, Some, None, List, [], ◌∷◌, ◌++◌, length, sym, ◌∙◌, ap, append_assoc}
 use Rattle.std.specs.List.{flat_map}
 use Rattle.std.proofs.lemmas.List.{append-nil}
 use Rattle.aria_log.specs.LogPage.{read_log_page}
-use Rattle.aria_log.specs.Frames.{frames_in, frames_within}
-use Rattle.aria_log.specs.Front.{Piece, is_full, piece_at, front, run_rest, runs, frames_of_runs}
+use Rattle.aria_log.specs.Frames.{frames_in}
+use Rattle.aria_log.specs.Front.{Piece, front, run_rest, runs, frames_of_runs}
 use Rattle.aria_log.specs.Collected.{all_frames}
 use Rattle.aria_log.proofs.Fronts.{front_some, front_none, piece_some, piece_none, piece_other}
 

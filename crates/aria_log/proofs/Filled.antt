@@ -1,9 +1,9 @@
 -- The page that is filled, byte after byte, and the page that is written from it.
-use Rattle.std.proofs.Common.{◌≡◌, ℕ, ◌+◌, ◌-◌, ◌≤◌, Bool, true, false, Option, Some, List, [], ◌++◌, length, take, drop, min, refl, sym, ◌∙◌, ap, subst, arith, length-append}
-use Rattle.std.proofs.lemmas.List.{length-take, take_min}
+use Rattle.std.proofs.Common.{◌≡◌, ℕ, ◌+◌, ◌-◌, ◌≤◌, Bool, Some, List, [], ◌++◌, length, take, drop, min, refl, ◌∙◌, ap, arith, length-append}
+use Rattle.std.proofs.lemmas.List.{length-take}
 use Rattle.aria_page.specs.Page.{Sums, with_bytes, with_sum, zero_page}
 use Rattle.aria_log.specs.declared.log.Log.{Log as LogValue}
-use Rattle.aria_log.specs.LogPage.{log_head, log_body, log_page, IsLogPage, read_log_page}
+use Rattle.aria_log.specs.LogPage.{log_head, log_body, log_page, read_log_page}
 use Rattle.aria_log.specs.Log.{Fills}
 use Rattle.aria_log.proofs.LogPages.{valid_reads}
 use Rattle.aria_log.proofs.Sealing.{filled_more, sealed_is_page}

@@ -1,19 +1,19 @@
 -- Frames that are appended, and frames that are forced.
-use Rattle.std.proofs.Common.{◌≡◌, ◌⊎◌, inl, inr, ℕ, zero, suc, ◌+◌, ◌-◌, ◌<◌, ◌≤◌, Bool, true, false, IsTrue, Option, None, Some, List, [], ◌∷◌, ◌++◌, length, take, drop, refl, sym, ◌∙◌, ap, subst, arith, append_assoc, length-append, rules}
+use Rattle.std.proofs.Common.{◌≡◌, inl, ℕ, ◌+◌, ◌≤◌, Bool, true, false, IsTrue, Option, Some, List, [], ◌∷◌, ◌++◌, length, take, drop, refl, sym, ◌∙◌, ap, subst, arith, append_assoc, length-append, rules}
 use Rattle.std.specs.Prelude.{All, Result, Ok, Err, OnOk, is_ok}
 use Rattle.std.specs.List.{flat_map}
 use Rattle.std.proofs.lemmas.Grind.{flat_map-append}
 use Rattle.std.proofs.lemmas.List.{append-nil, length_push, drop-append-le, take-append-le, take-append-drop, take_all, drop_all, length-drop, nil_from_length}
 use Rattle.std.proofs.lemmas.List.Elements.{All-push, All-nil}
 use Rattle.aria_page.specs.Number.{number}
-use Rattle.aria_host.specs.Folder.{Folder, same_file}
+use Rattle.aria_host.specs.Folder.{Folder}
 use Rattle.aria_host.specs.State.{State}
 use Rattle.aria_host.specs.Calls.{Syncs}
 use Rattle.aria_log.specs.declared.log.Log.{Log as LogValue}
 use Rattle.aria_log.specs.LogPage.{log_body}
 use Rattle.aria_log.specs.Frames.{IsFrame, frame_bytes, frames_bytes, frames_in}
-use Rattle.aria_log.specs.Runs.{IsRun, IsPartOf, IsWhole, HoldsFrom, begins_next}
-use Rattle.aria_log.specs.Log.{log_file, SameOthers, LogMoments, LogKeeps, IsImage, IsWriting, Fills, IsAt, IsLog, Wrote, Adds}
+use Rattle.aria_log.specs.Runs.{IsRun, IsWhole, HoldsFrom, begins_next}
+use Rattle.aria_log.specs.Log.{log_file, LogMoments, LogKeeps, IsImage, IsWriting, IsAt, IsLog, Wrote, Adds}
 use Rattle.aria_log.proofs.FrameLists.{all_found, length-frame_bytes}
 use Rattle.aria_log.proofs.Images.{image_from, whole_and_run}
 use Rattle.aria_log.proofs.Writing.{OnlyNow, one_call, one_after, more_at_log}

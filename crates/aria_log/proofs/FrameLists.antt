@@ -1,16 +1,16 @@
 -- Frames that were stored are found again, and a front of them holds a front of the frames.
-use Rattle.std.proofs.Common.{◌≡◌, ◌&&◌, ◌⊎◌, inl, inr, ℕ, zero, suc, ◌+◌, ◌-◌, ◌^◌, ◌<◌, ◌≤◌, Bool, true, false, cond, Option, None, Some, List, [], ◌∷◌, ◌++◌, length, take, drop, nat_le, refl, sym, ◌∙◌, ap, subst, arith, append_assoc, length-append}
+use Rattle.std.proofs.Common.{◌≡◌, ◌&&◌, inl, inr, ℕ, zero, suc, ◌+◌, ◌<◌, ◌≤◌, Bool, true, false, cond, Option, None, Some, List, [], ◌∷◌, ◌++◌, length, take, drop, nat_le, refl, sym, ◌∙◌, ap, subst, arith, append_assoc, length-append}
 use Rattle.std.specs.Prelude.{All}
 use Rattle.std.specs.List.{flat_map}
 use Rattle.std.specs.Option.{option_map_or}
 use Rattle.std.proofs.lemmas.Bool.{cases_lt}
 use Rattle.std.proofs.lemmas.Bool.Decides.{nat_tests}
-use Rattle.std.proofs.lemmas.List.{append_cancel_left, length-take, take-append-drop, length-drop, take-append-le, drop-append-le, append-nil, take_at, drop_at}
+use Rattle.std.proofs.lemmas.List.{take-append-drop, length-drop, take-append-le, drop-append-le, take_at, drop_at}
 use Rattle.std.proofs.lemmas.List.Elements.{All-head, All-tail}
 use Rattle.aria_page.specs.Field.{◌>>=◌}
-use Rattle.aria_page.specs.Number.{number, number_of, number_at}
+use Rattle.aria_page.specs.Number.{number, number_at}
 use Rattle.aria_page.specs.Text.{bytes_at}
-use Rattle.aria_page.proofs.Numbers.{length-number, number_again, number_short, number_of-number, number_long}
+use Rattle.aria_page.proofs.Numbers.{length-number, number_again, number_short}
 use Rattle.aria_page.proofs.Texts.{bytes_again}
 use Rattle.aria_log.specs.Frames.{IsFrame, frame_bytes, frames_bytes, frame_at, frames_within, frames_in}
 

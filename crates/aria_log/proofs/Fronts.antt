@@ -1,15 +1,15 @@
 -- What the valid front of pages is, page by page, and what a part of a run leaves.
-use Rattle.std.proofs.Common.{◌≡◌, ◌==◌, ◌||◌, ◌⊎◌, inl, inr, ℕ, zero, suc, ◌+◌, ◌-◌, ◌<◌, ◌≤◌, Bool, true, false, cond, Option, None, Some, List, [], ◌∷◌, ◌++◌, length, take, drop, refl, sym, ◌∙◌, ap, subst, arith, append_assoc, length-append}
+use Rattle.std.proofs.Common.{◌≡◌, ◌||◌, inl, inr, ℕ, suc, ◌+◌, Bool, true, false, cond, Option, None, Some, List, [], ◌∷◌, ◌++◌, length, drop, refl, sym, ◌∙◌, ap, subst, arith, append_assoc}
 use Rattle.std.specs.List.{flat_map}
 use Rattle.std.specs.Option.{option_map_or}
 use Rattle.std.proofs.lemmas.Bool.{eq-eqb}
 use Rattle.std.proofs.lemmas.Grind.{flat_map-append}
-use Rattle.std.proofs.lemmas.List.{append-nil, drop-append-le, drop_all}
+use Rattle.std.proofs.lemmas.List.{append-nil, drop_all}
 use Rattle.aria_page.specs.Field.{◌>>=◌}
 use Rattle.aria_log.specs.LogPage.{read_log_page}
 use Rattle.aria_log.specs.Frames.{frames_in, frames_within}
-use Rattle.aria_log.specs.Front.{Piece, is_full, piece_at, front, run_rest, runs, frames_of_runs, frames_of, end_of, begins_behind, damaged_at}
-use Rattle.aria_log.specs.Runs.{IsRun, IsPartOf, IsWhole}
+use Rattle.aria_log.specs.Front.{Piece, is_full, piece_at, front, run_rest, runs, frames_of_runs, begins_behind}
+use Rattle.aria_log.specs.Runs.{IsRun, IsPartOf}
 
 abbrev Page : Type 0
 Page = List ℕ

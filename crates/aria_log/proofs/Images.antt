@@ -1,7 +1,7 @@
 -- What the file of the log holds after a crash: a front of the frames that has all forced ones.
-use Rattle.std.proofs.Common.{◌≡◌, ◌||◌, ◌⊎◌, inl, inr, ℕ, zero, suc, ◌+◌, ◌-◌, ◌<◌, ◌≤◌, Bool, true, false, cond, Option, None, Some, List, [], ◌∷◌, ◌++◌, length, take, drop, replicate, unwrap_or, refl, sym, ◌∙◌, ap, subst, arith, append_assoc, length-append}
+use Rattle.std.proofs.Common.{◌≡◌, ◌⊎◌, inl, inr, ℕ, zero, suc, ◌+◌, ◌-◌, ◌≤◌, Bool, true, false, cond, None, Some, List, [], ◌∷◌, ◌++◌, length, take, drop, replicate, refl, sym, ◌∙◌, ap, subst, arith, append_assoc, length-append}
 use Rattle.std.specs.Prelude.{All}
-use Rattle.std.proofs.lemmas.List.{drop-drop, drop_at, drop_all, take_all, take_at, append-nil, length-take, length-drop, take-append-drop, take-append-le, length-replicate}
+use Rattle.std.proofs.lemmas.List.{drop-drop, drop_at, drop_all, take_all, append-nil, length-drop}
 use Rattle.aria_page.specs.Page.{zero_page}
 use Rattle.aria_host.specs.Folder.{put_page}
 use Rattle.aria_log.specs.LogPage.{read_log_page}
@@ -9,8 +9,8 @@ use Rattle.aria_log.specs.Frames.{IsFrame, frames_bytes, frames_in}
 use Rattle.aria_log.specs.Front.{Piece, front, frames_of_runs, frames_of, end_of, begins_behind, damaged_at}
 use Rattle.aria_log.specs.Runs.{IsRun, IsPartOf, IsWhole, HoldsFrames, HoldsFrom, begins_next}
 use Rattle.aria_log.proofs.LogPages.{zero_reads}
-use Rattle.aria_log.proofs.FrameLists.{front_holds, all_found}
-use Rattle.aria_log.proofs.Fronts.{front_nil, front-append, frames_before_run, part_pieces, run_pieces, part_is_free, part_quiet}
+use Rattle.aria_log.proofs.FrameLists.{front_holds}
+use Rattle.aria_log.proofs.Fronts.{front-append, frames_before_run, part_pieces, run_pieces, part_is_free, part_quiet}
 
 -- a run is a part of itself
 pub part_itself : (n : ℕ) (written : List (List ℕ)) → IsPartOf n written written

@@ -11,3 +11,5 @@ pub mod Starting
 pub mod PageReads
 pub mod Collecting
 pub mod Opening
+pub mod Found
+pub mod Keeping

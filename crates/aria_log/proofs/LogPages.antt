@@ -1,15 +1,15 @@
 -- A page of the log reads as what it was made of, and no other page reads.
-use Rattle.std.proofs.Common.{◌≡◌, ◌==◌, ◌&&◌, ◌⊎◌, inl, inr, ℕ, ◌+◌, ◌-◌, ◌^◌, ◌<◌, ◌≤◌, Bool, true, false, cond, Option, None, Some, List, [], ◌∷◌, ◌++◌, length, take, drop, replicate, nat_le, refl, sym, ◌∙◌, ap, subst, arith, append_assoc, length-append}
-use Rattle.std.specs.Prelude.{slice_index, IsTrue}
+use Rattle.std.proofs.Common.{◌≡◌, ◌==◌, ◌&&◌, inl, inr, ℕ, ◌-◌, ◌≤◌, Bool, true, false, cond, Option, None, Some, List, ◌++◌, length, take, drop, replicate, nat_le, refl, sym, ◌∙◌, ap, subst, arith}
+use Rattle.std.specs.Prelude.{slice_index}
 use Rattle.std.specs.Cmp.Lexicographic.{pointwise, bytes_decides}
-use Rattle.std.proofs.lemmas.Bool.{cases_Bool, eqb-true, eq-eqb, false_from_ne_true}
+use Rattle.std.proofs.lemmas.Bool.{cases_Bool, eqb-true, eq-eqb}
 use Rattle.std.proofs.lemmas.Bool.Decides.{nat_tests}
-use Rattle.std.proofs.lemmas.List.{take_at, length-take}
+use Rattle.std.proofs.lemmas.List.{take_at}
 use Rattle.std.proofs.lemmas.Option.{same_Some}
 use Rattle.aria_page.specs.Number.{number, number_of}
 use Rattle.aria_page.specs.Crc.{checksum}
 use Rattle.aria_page.specs.Page.{Sums, with_sum, zero_page}
-use Rattle.aria_page.proofs.Numbers.{number_of-number, length-number}
+use Rattle.aria_page.proofs.Numbers.{number_of-number}
 use Rattle.aria_log.specs.LogPage.{log_head, log_body, log_page, IsLogPage, is_log_page, says_begins, says_used, read_log_page}
 
 -- the page says whether it begins a run

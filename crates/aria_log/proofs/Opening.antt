@@ -1,19 +1,18 @@
 -- The pages of the log's file are read one after the other, and nothing changes.
-use Rattle.std.proofs.Common.{◌≡◌, ◌||◌, ◌⊎◌, inl, inr, ⊎_elim, ℕ, zero, suc, ◌+◌, ◌-◌, ◌<◌, ◌≤◌, Bool, true, false, cond, IsTrue, Option, None, Some, unwrap_or, List, [], ◌∷◌, ◌++◌, length, take, drop, refl, sym, ◌∙◌, ap, subst, arith, add-one}
+use Rattle.std.proofs.Common.{◌≡◌, ◌||◌, inl, inr, ⊎_elim, ℕ, zero, suc, ◌+◌, ◌≤◌, Bool, true, false, Option, None, Some, unwrap_or, List, [], ◌∷◌, ◌++◌, length, take, drop, refl, sym, ◌∙◌, ap, subst, arith}
 use Rattle.std.specs.Prelude.{slice_get, option_and_then}
 use Rattle.std.specs.Option.{option_map_or}
 use Rattle.std.specs.Bool.{MatchBool}
 use Rattle.std.proofs.lemmas.List.{drop_all, append-nil}
 use Rattle.std.proofs.lemmas.Option.{same_Some}
-use Rattle.aria_host.specs.declared.file_name.FileName.{FileName}
-use Rattle.aria_host.specs.Folder.{Folder, page_at, page_count}
-use Rattle.aria_host.specs.State.{State, Elapses}
-use Rattle.aria_host.specs.Calls.{SameImages, TellsNothing, Unchanged, IsPage}
+use Rattle.aria_host.specs.Folder.{Folder, page_count}
+use Rattle.aria_host.specs.State.{State}
+use Rattle.aria_host.specs.Calls.{Unchanged, IsPage}
 use Rattle.aria_log.specs.LogPage.{read_log_page}
 use Rattle.aria_log.specs.Frames.{frames_in, frames_within}
 use Rattle.aria_log.specs.Front.{Piece, is_full, front, runs, run_rest, frames_of_runs, frames_of, end_of, begins_behind}
 use Rattle.aria_log.specs.Collected.{all_frames}
-use Rattle.aria_log.specs.Log.{log_file, log_pages, log_of}
+use Rattle.aria_log.specs.Log.{log_file, log_pages}
 use Rattle.aria_log.proofs.Fronts.{front_nil, front_some, front_none, piece_some, piece_none, piece_other, quiet_nil}
 
 -- nothing happened

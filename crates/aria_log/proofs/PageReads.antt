@@ -1,18 +1,16 @@
 -- What is read of pages and frames.
 use Rattle.std.proofs.Common.{◌≡◌, ◌&&◌, ◌⊎◌, inl, inr, ℕ, zero, suc, ◌+◌, ◌-◌, ◌<◌, ◌≤◌, Bool, true, false, cond, Option, None, Some, List, [], ◌∷◌, ◌++◌, length, take, drop, nat_le, refl, sym, ◌∙◌, ap, subst, arith, ltb}
-use Rattle.std.specs.Option.{option_map_or}
 use Rattle.std.specs.Prelude.{slice_index, ◌==◌}
 use Rattle.std.proofs.lemmas.Bool.{ltb-false}
-use Rattle.std.proofs.lemmas.List.{length-drop, drop-drop, take_rest, append-nil, append_assoc}
+use Rattle.std.proofs.lemmas.List.{length-drop, take_rest, append-nil, append_assoc}
 use Rattle.std.proofs.lemmas.Option.{same_Some}
-use Rattle.aria_page.specs.Field.{◌>>=◌}
-use Rattle.aria_page.specs.Number.{number, number_of, number_at}
+use Rattle.aria_page.specs.Number.{number_of, number_at}
 use Rattle.aria_page.specs.Page.{Sums, with_sum, with_bytes, zero_page}
 use Rattle.aria_page.specs.Text.{bytes_at}
 use Rattle.aria_page.proofs.Fields.{bind_some, guard_some}
 use Rattle.aria_log.specs.LogPage.{log_head, log_body, log_page, IsLogPage, says_begins, says_used, read_log_page}
 use Rattle.aria_log.specs.Frames.{frame_at, frames_within, frames_in}
-use Rattle.aria_log.proofs.LogPages.{valid_says, valid_counts, no_read, valid_reads}
+use Rattle.aria_log.proofs.LogPages.{valid_says, valid_counts, no_read}
 use Rattle.aria_log.proofs.FrameLists.{none_within, some_within}
 use Rattle.aria_log.proofs.Filled.{zero_fills}
 use Rattle.aria_log.proofs.Sealing.{filled_more, sealed_is_page}

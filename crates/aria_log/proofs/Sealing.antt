@@ -1,6 +1,6 @@
 -- A page that is filled and sealed is a page of the log.
-use Rattle.std.proofs.Common.{◌≡◌, ℕ, ◌+◌, ◌-◌, ◌≤◌, Bool, true, false, cond, List, [], ◌∷◌, ◌++◌, length, take, drop, replicate, refl, sym, ◌∙◌, ap, arith, append_assoc, length-append}
-use Rattle.std.proofs.lemmas.List.{take_at, drop_at, drop-drop, drop-replicate, length-take, length-drop, append-nil, drop-take, drop-append-le}
+use Rattle.std.proofs.Common.{◌≡◌, ℕ, ◌+◌, ◌-◌, ◌≤◌, Bool, cond, List, [], ◌∷◌, ◌++◌, length, take, drop, replicate, refl, sym, ◌∙◌, ap, arith, append_assoc, length-append}
+use Rattle.std.proofs.lemmas.List.{take_at, drop_at, drop-drop, drop-replicate, length-take, drop-take, drop-append-le}
 use Rattle.aria_page.specs.Number.{number}
 use Rattle.aria_page.specs.Page.{with_bytes, with_sum, summed}
 use Rattle.aria_page.proofs.Numbers.{length-number}

@@ -1,11 +1,11 @@
 -- A log that is started: its file is made, or cut to its end, and brought to the disk.
-use Rattle.std.proofs.Common.{◌≡◌, ◌⊎◌, inl, inr, ⊎_elim, rules, ℕ, zero, suc, ◌+◌, ◌-◌, ◌<◌, ◌≤◌, Bool, true, false, cond, IsTrue, Option, None, Some, unwrap_or, List, [], ◌∷◌, ◌++◌, length, take, drop, refl, sym, ◌∙◌, ap, subst, arith}
-use Rattle.std.specs.Prelude.{IsSome, IsNone}
+use Rattle.std.proofs.Common.{◌≡◌, ⊎_elim, rules, ℕ, suc, ◌+◌, ◌≤◌, Bool, true, false, cond, Option, None, Some, unwrap_or, List, [], ◌∷◌, length, take, drop, refl, sym, ◌∙◌, ap, subst, arith}
+use Rattle.std.specs.Prelude.{IsSome}
 use Rattle.std.specs.Option.{option_map}
 use Rattle.std.proofs.lemmas.List.{length-take, take_all, drop_all}
-use Rattle.aria_host.specs.Folder.{Folder, same_file, with_file, with_cut}
+use Rattle.aria_host.specs.Folder.{Folder, with_file}
 use Rattle.aria_host.specs.State.{State}
-use Rattle.aria_host.specs.Calls.{Syncs, Creates, Cuts, Unchanged, extent_of}
+use Rattle.aria_host.specs.Calls.{Syncs, Creates, Cuts, Unchanged}
 use Rattle.aria_host.proofs.Files.{with_file-same, with_file-other}
 use Rattle.aria_log.specs.declared.log.Log.{Log as LogValue}
 use Rattle.aria_log.specs.Front.{Piece, is_full, piece_at, front, frames_of_runs, frames_of, end_of, begins_behind, damaged_at}

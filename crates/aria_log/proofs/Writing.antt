@@ -1,21 +1,20 @@
 -- What a write at the end of the log does, at each moment.
-use Rattle.std.proofs.Common.{◌≡◌, ◌⊎◌, inl, inr, ℕ, zero, suc, ◌+◌, ◌-◌, ◌<◌, ◌≤◌, Bool, true, false, IsTrue, Option, None, Some, List, [], ◌∷◌, ◌++◌, length, take, drop, replicate, refl, sym, ◌∙◌, ap, subst, arith, append_assoc, length-append}
+use Rattle.std.proofs.Common.{◌≡◌, ◌⊎◌, inl, inr, ℕ, zero, suc, ◌+◌, ◌-◌, ◌≤◌, Bool, true, false, IsTrue, Option, Some, List, [], ◌∷◌, ◌++◌, length, take, replicate, refl, ◌∙◌, ap, arith}
 use Rattle.std.specs.Option.{option_map}
 use Rattle.std.proofs.lemmas.List.{append-nil}
-use Rattle.aria_page.specs.Page.{zero_page, Sums}
-use Rattle.aria_host.specs.declared.file_name.FileName.{FileName}
-use Rattle.aria_host.specs.Folder.{Folder, same_file, is_log, put_page, with_file, with_page}
-use Rattle.aria_host.specs.State.{State, Elapses, LeavesOnly}
+use Rattle.aria_page.specs.Page.{zero_page}
+use Rattle.aria_host.specs.Folder.{Folder, put_page, with_page}
+use Rattle.aria_host.specs.State.{State}
 use Rattle.aria_host.specs.Steps.{MayWrite}
-use Rattle.aria_host.specs.Calls.{Writes, Changes, TellsNothing}
+use Rattle.aria_host.specs.Calls.{Writes, TellsNothing}
 use Rattle.aria_host.proofs.Files.{with_file-same, with_file-other}
 use Rattle.aria_host.proofs.Moments.{started, goes_on, joined, weakened}
 use Rattle.aria_log.specs.declared.log.Log.{Log as LogValue}
 use Rattle.aria_log.specs.LogPage.{read_log_page}
 use Rattle.aria_log.specs.Runs.{IsRun, IsPartOf, begins_next}
-use Rattle.aria_log.specs.Log.{log_file, SameOthers, LeavesOthers, AtLog, LogMoments, IsImage, IsWriting, Fills, Wrote}
+use Rattle.aria_log.specs.Log.{log_file, SameOthers, AtLog, LogMoments, IsImage, IsWriting, Fills, Wrote}
 use Rattle.aria_log.proofs.LogPages.{torn_reads}
-use Rattle.aria_log.proofs.Images.{part_length, part_longer, part_added, put_behind, run_added, run_closed}
+use Rattle.aria_log.proofs.Images.{part_length, part_longer, part_added, put_behind, run_added}
 
 -- since this moment there is no other
 abbrev pub OnlyNow : State → Type 0

@@ -4,3 +4,4 @@ pub mod Front
 pub mod Runs
 pub mod Log
 pub mod Collected
+pub mod Opened

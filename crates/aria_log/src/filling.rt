@@ -13,6 +13,18 @@ use aria_page::Page;
 use std::cmp::min;
 
 impl Log {
+    // A log that ends before the page of this number, with nothing appended.
+    pub(crate) fn at(number: u32) -> Log
+        ensures { Fills result number true [] }
+    {
+        Log {
+            page: Page::zero(),
+            number,
+            begins: true,
+            used: 0,
+        }
+    }
+
     // Takes bytes from the front into the page, as many as there is room for, and says how many.
     fn fill(&mut self, bytes: &[u8]) -> usize
         ensures count { result ≡ min (8176 - self.old.used) (length bytes.now) }

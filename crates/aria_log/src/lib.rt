@@ -11,9 +11,12 @@ mod calls;
 mod filling;
 mod log;
 mod log_page;
-mod open;
+mod opened;
 mod reader;
 mod reading;
+mod scan;
 mod start;
 
 pub use log::Log;
+pub use opened::Opened;
+pub use scan::open;

@@ -43,6 +43,19 @@ impl Reader {
         Ok(())
     }
 
+    /// All frames, those of the last run too.
+    pub(crate) fn finish(self, alloc: Global) -> Result<List<Bytes>, AllocError>
+        ensures { IfOk result (λ frames. frames ≡ self.frames ++ frames_in self.run) }
+    {
+        let Reader {
+            mut frames,
+            run,
+            ..
+        } = self;
+        push_frames(alloc, &mut frames, run.as_slice())?;
+        Ok(frames)
+    }
+
     // Adds the bytes of a page that begins a run or goes on with one.
     fn put(&mut self, alloc: Global, begins: bool, bytes: &[u8]) -> Result<(), AllocError>
         ensures frames { OnOk result (self.new.frames ≡ self.old.frames ++ (if begins then frames_in self.old.run else [])) }

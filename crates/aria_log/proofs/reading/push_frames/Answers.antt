@@ -1,5 +1,4 @@
-use Rattle.std.proofs.Common.{◌≡◌, ◌∙◌, sym, refl, ap, Some, None, rules, ◌++◌, ◌∷◌, []}
-use Rattle.aria_log.specs.Frames.{frame_at}
+use Rattle.std.proofs.Common.{◌∙◌, ap, ◌++◌, ◌∷◌, []}
 use Rattle.aria_log.proofs.PageReads.{frame_shorter, frames_go_on, frames_end}
 use Rattle.aria_log.proofs.reading.push_frames.Goals as goal
 

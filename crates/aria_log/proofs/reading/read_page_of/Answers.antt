@@ -1,4 +1,4 @@
-use Rattle.std.proofs.Common.{◌≡◌, ◌∙◌, sym, refl, inl, inr, IsTrue, Bool, true, false, arith}
+use Rattle.std.proofs.Common.{◌≡◌, refl, inl, inr, arith}
 use Rattle.aria_log.proofs.LogPages.{valid_reads}
 use Rattle.aria_log.proofs.PageReads.{begins_is, used_is, counts_are, fields_other, says_too_many}
 use Rattle.aria_log.proofs.Appending.{not_done}

@@ -1,4 +1,4 @@
-use Rattle.std.proofs.Common.{rules, ◌≡◌, ◌∙◌, ◌++◌, false, true, sym, ap, arith, length, List, ℕ, [], take, refl, subst, is_ok}
+use Rattle.std.proofs.Common.{◌≡◌, ◌∙◌, ◌++◌, true, sym, ap, arith, List, ℕ, [], take, refl, subst, is_ok}
 use Rattle.std.proofs.lemmas.List.{append-nil, take_rest}
 use Rattle.std.proofs.lemmas.Result.{err_from_is_err_and}
 use Rattle.aria_log.specs.Log.{Adds}

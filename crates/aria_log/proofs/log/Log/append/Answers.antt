@@ -1,8 +1,4 @@
-use Rattle.std.proofs.Common.{◌≡◌, ◌≤◌, ◌∙◌, ◌++◌, ℕ, List, true, IsTrue, length, refl, ap, sym, arith, is_ok}
-use Rattle.std.specs.Prelude.{OnOk}
-use Rattle.aria_page.specs.Number.{number}
-use Rattle.aria_log.specs.Log.{IsLog, LogKeeps}
-use Rattle.aria_log.specs.Frames.{frames_bytes}
+use Rattle.std.proofs.Common.{refl, is_ok}
 use Rattle.aria_log.proofs.Forcing.{appended, append_failed, on_ok, on_ok_of}
 use Rattle.aria_log.proofs.log.Log.append.Goals as goal
 

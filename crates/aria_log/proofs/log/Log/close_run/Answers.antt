@@ -1,4 +1,4 @@
-use Rattle.std.proofs.Common.{◌≡◌, ◌≤◌, ◌∙◌, ℕ, List, true, IsTrue, length, refl, ap, sym, arith, rules, subst, inl, Option, Some}
+use Rattle.std.proofs.Common.{◌≤◌, ℕ, List, true, length, refl, sym, arith, rules, subst, inl, Option}
 use Rattle.std.specs.Prelude.{IsSome}
 use Rattle.aria_log.proofs.Forcing.{unwritten_keeps, closed_keeps, closed_forced}
 use Rattle.aria_log.proofs.log.Log.close_run.Goals as goal

@@ -1,4 +1,4 @@
-use Rattle.std.proofs.Common.{rules, ◌∙◌, sym, subst, List, ℕ, Option}
+use Rattle.std.proofs.Common.{rules, sym, subst, List, ℕ, Option}
 use Rattle.std.specs.Prelude.{IsSome}
 use Rattle.aria_log.proofs.Starting.{was_cut}
 use Rattle.aria_log.proofs.log.Log.cut_end.Goals as goal

@@ -1,4 +1,4 @@
-use Rattle.std.proofs.Common.{◌≡◌, true, subst, Bool, is_ok, IsTrue}
+use Rattle.std.proofs.Common.{◌≡◌, true, subst, Bool, is_ok}
 use Rattle.aria_host.specs.Calls.{Syncs}
 use Rattle.aria_log.specs.Log.{log_file}
 use Rattle.aria_log.proofs.Forcing.{on_ok}

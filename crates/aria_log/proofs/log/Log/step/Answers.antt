@@ -1,4 +1,3 @@
-use Rattle.std.proofs.Common.{rules, ◌≡◌, ◌∙◌, sym, ap, arith, length, List, ℕ, take, refl}
 use Rattle.std.proofs.lemmas.Result.{err_from_is_err_and}
 use Rattle.aria_log.proofs.Appending.{filled_adds}
 use Rattle.aria_log.proofs.log.Log.step.Goals as goal

@@ -1,8 +1,7 @@
-use Rattle.std.proofs.Common.{ℕ, ◌≡◌, ◌+◌, false, true, Bool, IsTrue, List, is_ok, subst, length, drop, refl, sym, ◌∙◌, ap, arith}
+use Rattle.std.proofs.Common.{ℕ, ◌≡◌, ◌+◌, false, true, Bool, IsTrue, List, is_ok, subst, drop, refl, sym, ◌∙◌, ap, arith}
 use Rattle.std.proofs.lemmas.Result.{err_from_is_err_and}
 use Rattle.aria_host.specs.Calls.{Writes}
-use Rattle.aria_log.specs.Log.{log_file, IsWriting, Fills}
-use Rattle.aria_log.specs.Runs.{begins_next}
+use Rattle.aria_log.specs.Log.{log_file}
 use Rattle.aria_log.proofs.Filled.{written_reads, zero_fills}
 use Rattle.aria_log.proofs.Writing.{write_step}
 use Rattle.aria_log.proofs.log.Log.write.Goals as goal

@@ -1,4 +1,4 @@
-use Rattle.std.proofs.Common.{◌≡◌, refl}
+use Rattle.std.proofs.Common.{refl}
 use Rattle.aria_log.proofs.Collecting.{page_taken, page_unread, page_loose}
 use Rattle.aria_log.proofs.reader.Reader.take.Goals as goal
 

@@ -2,7 +2,7 @@ use Rattle.std.proofs.Common.{◌≡◌, ◌≤◌, IsTrue}
 use Rattle.aria_host.specs.Calls.{Unchanged}
 use Rattle.aria_log.specs.Log.{log_pages}
 use Rattle.aria_log.proofs.Opening.{IsRead}
-use Rattle.aria_log.proofs.open.read_front.Given as goal
+use Rattle.aria_log.proofs.scan.read_front.Given as goal
 
 abbrev pub invariant-loop-number : goal.invariant-loop-number
 invariant-loop-number g l = record {

@@ -1,7 +1,7 @@
-use Rattle.std.proofs.Common.{◌≡◌, ◌∙◌, ◌≤◌, length, sym, refl, ap, arith}
+use Rattle.std.proofs.Common.{◌≡◌, ◌∙◌, ◌≤◌, length, sym, refl, arith}
 use Rattle.aria_log.specs.Log.{log_pages}
 use Rattle.aria_log.proofs.Opening.{unchanged_now, unchanged_after, page_next, read_none, read_taken, read_stops, read_past}
-use Rattle.aria_log.proofs.open.read_front.Goals as goal
+use Rattle.aria_log.proofs.scan.read_front.Goals as goal
 
 pub loop-number-init : goal.loop-number-init
 loop-number-init g c = record {

@@ -1,7 +1,7 @@
-use Rattle.std.proofs.Common.{◌≡◌, ◌∙◌, ◌≤◌, length, sym, refl, ap, arith}
+use Rattle.std.proofs.Common.{◌∙◌, ◌≤◌, length, sym, arith}
 use Rattle.aria_log.specs.Log.{log_pages}
 use Rattle.aria_log.proofs.Opening.{unchanged_after, page_next, begun, not_begun, none_begun}
-use Rattle.aria_log.proofs.open.begins_from.Goals as goal
+use Rattle.aria_log.proofs.scan.begins_from.Goals as goal
 
 pub returns-then-begins_run-clause-found : goal.returns-then-begins_run-clause-found
 returns-then-begins_run-clause-found g c = λ told.

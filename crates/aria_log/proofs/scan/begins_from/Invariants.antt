@@ -2,7 +2,7 @@ use Rattle.std.proofs.Common.{◌≡◌, ◌≤◌, IsTrue, drop}
 use Rattle.aria_host.specs.Calls.{Unchanged}
 use Rattle.aria_log.specs.Front.{begins_behind}
 use Rattle.aria_log.specs.Log.{log_pages}
-use Rattle.aria_log.proofs.open.begins_from.Given as goal
+use Rattle.aria_log.proofs.scan.begins_from.Given as goal
 
 abbrev pub invariant-loop-number : goal.invariant-loop-number
 invariant-loop-number g l = record {

@@ -7,8 +7,11 @@ ghost use Rattle.aria_host.specs.Calls.{HasDiskCause, HasDiskOrMemoryCause, Unch
 ghost use Rattle.aria_log.specs.Frames.{frames_in};
 ghost use Rattle.aria_log.specs.Front.{begins_behind, end_of};
 ghost use Rattle.aria_log.specs.Log.{log_pages, log_of};
+ghost use Rattle.aria_log.specs.Opened.{Finds};
 
+use crate::log::Log;
 use crate::log_page::FILE;
+use crate::opened::Opened;
 use crate::reader::Reader;
 use crate::reading::read_page_of;
 use aria_host::{Fault, FileName, Host};
@@ -68,4 +71,32 @@ fn begins_from<H: Host>(host: &mut H, from: u32, pages: u32) -> Result<bool, Fau
         }
     }
     Ok(false)
+}
+
+// How many pages the file has; none where it isn't there.
+fn pages_of<H: Host>(host: &mut H) -> Result<u32, Fault>
+    ensures pages { IsTrue H.tells → IfOk result (λ pages. pages ≡ length (log_pages (H.state host.old).folder)) }
+    ensures same { IsTrue H.tells → Unchanged (H.state host.old) (H.state host.new) }
+    ensures cause { HasDiskCause (H.state host.old) (H.state host.new) result }
+{
+    match host.look(&FileName::Log(FILE))? {
+        None => Ok(0),
+        Some(extent) => Ok(extent.pages),
+    }
+}
+
+/// Opens the log, and changes nothing. Where the file isn't there the log has no frames.
+pub fn open<H: Host>(alloc: Global, host: &mut H) -> Result<Opened, Fault>
+    ensures found { IsTrue H.tells → IfOk result (λ opened. Finds opened (H.state host.old).folder) }
+    ensures same { IsTrue H.tells → Unchanged (H.state host.old) (H.state host.new) }
+    ensures cause { HasDiskOrMemoryCause (H.state host.old) (H.state host.new) result }
+{
+    let pages = pages_of(host)?;
+    let mut reader = Reader::new(alloc);
+    let number = read_front(alloc, host, pages, &mut reader)?;
+    if begins_from(host, number, pages)? {
+        return Ok(Opened::Damaged { page: number });
+    }
+    let frames = reader.finish(alloc)?;
+    Ok(Opened::Sound(Log::at(number), frames))
 }

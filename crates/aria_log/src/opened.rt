@@ -1,0 +1,11 @@
+use crate::log::Log;
+use aria_page::{Bytes, List};
+
+/// What the opening of a log finds.
+#[derive(Drop)]
+pub enum Opened {
+    /// The log, which is to be started before anything is appended, and its frames.
+    Sound(Log, List<Bytes>),
+    /// The log is damaged at this page of its file: it isn't valid, and a valid page behind it begins a run.
+    Damaged { page: u32 },
+}
