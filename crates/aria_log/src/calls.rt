@@ -61,4 +61,13 @@ impl Log {
         }
         self.close_run(host)
     }
+
+    /// How many pages the file has once all frames are forced.
+    pub fn pages(&self) -> u64
+        ensures count { result ≡ self.now.number + (if self.now.used == 0 then 0 else 1) }
+        ensures place { place self.now ≤ 8176 * result }
+    {
+        let number = self.number as u64;
+        if self.used == 0 { number } else { number + 1 }
+    }
 }
