@@ -7,3 +7,4 @@ pub mod Options
 pub mod Sought
 pub mod Patch
 pub mod Spliced
+pub mod Grown
