@@ -19,8 +19,8 @@ unfolding packed
 left-low w items at rest x left e = elim (cases_lt at (length items)) [
   | inl lt ↦ lt
   | inr ge ↦
-    let none : raw_at w rest ≡ None = ap (raw_at w) (left.is ∙ ap (packed w (entry_before items at)) (drop_all at items ge)) ∙ raw-nil w in
-    absurd cc
+      let none : raw_at w rest ≡ None = ap (raw_at w) (left.is ∙ ap (packed w (entry_before items at)) (drop_all at items ge)) ∙ raw-nil w in
+      absurd cc
 ]
 
 -- the size behind the last item

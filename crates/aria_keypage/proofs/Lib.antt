@@ -8,3 +8,4 @@ pub mod Sought
 pub mod Patch
 pub mod Spliced
 pub mod Grown
+pub mod Whole

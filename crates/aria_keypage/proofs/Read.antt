@@ -81,7 +81,7 @@ head_takes body x fits e =
     subst (λ (y : ℕ × ℕ × List ℕ). (behind : List ℕ) × (body ≡ (number 1 y.0 ++ (number 1 y.1 ++ (number 2 (length y.2) ++ y.2))) ++ behind)) {x = made} (same_Some made x d.2) (d.0.1, whole.parts)
 
 -- the kind of a page is a byte
-kind-lt : (leaf : Bool) → kind leaf < 256
+pub kind-lt : (leaf : Bool) → kind leaf < 256
 kind-lt true = omega arith
 kind-lt false = omega arith
 

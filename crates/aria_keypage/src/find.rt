@@ -51,7 +51,12 @@ pub(crate) fn find_in(items: &[u8], width: usize, count: usize, entry: &[u8]) ->
 }
 
 // How many leading bytes the entry before a place has in common with another, and what is left from there on.
-pub(crate) fn met_at<'b>(items: &'b [u8], width: usize, count: usize, entry: &[u8]) -> (usize, &'b [u8])
+pub(crate) fn met_at<'b>(
+    items: &'b [u8],
+    width: usize,
+    count: usize,
+    entry: &[u8],
+) -> (usize, &'b [u8])
     ensures within { result.0 ≤ length entry.now }
     ensures met { (xs : List Item) → ArePacked width xs items.now → count ≤ length xs → result.0 ≡ common (entry_before xs count) entry.now }
     ensures left { (xs : List Item) → ArePacked width xs items.now → count ≤ length xs → IsLeft width xs count result.1.now }

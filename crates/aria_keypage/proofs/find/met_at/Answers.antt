@@ -20,11 +20,11 @@ loop-at-preserved c =
     record {
       within = c.against-same.ensures.within;
       there = λ xs is h.
-      let inv = c.loop-at.invariant.there xs is h in
-      let low : c.loop-at.at < length xs = omega arith in
-      let r : Raw = record { shared = c.in-Some.raw.shared; rest = c.in-Some.raw.rest.now; to = c.in-Some.raw.to.now } in
-      let more = left-more c.args.width xs c.loop-at.at c.loop-at.rest.now (r, c.in-Some.behind.now) is.all inv.0 c.in-Some.ensures low in
-      let read = read-shares c.args.width xs c.loop-at.at r more.0 in
-      let next : entry_before xs (c.loop-at.at + 1) ≡ (item_at xs c.loop-at.at).entry = ap (entry_before xs) (add-one c.loop-at.at) in
-      (more.1, c.against-same.ensures.common (entry_before xs c.loop-at.at) (item_at xs c.loop-at.at).entry inv.1 read.0 read.1 ∙ ap (λ (l : List ℕ). common l c.args.entry.now) (sym next))
+          let inv = c.loop-at.invariant.there xs is h in
+          let low : c.loop-at.at < length xs = omega arith in
+          let r : Raw = record { shared = c.in-Some.raw.shared; rest = c.in-Some.raw.rest.now; to = c.in-Some.raw.to.now } in
+          let more = left-more c.args.width xs c.loop-at.at c.loop-at.rest.now (r, c.in-Some.behind.now) is.all inv.0 c.in-Some.ensures low in
+          let read = read-shares c.args.width xs c.loop-at.at r more.0 in
+          let next : entry_before xs (c.loop-at.at + 1) ≡ (item_at xs c.loop-at.at).entry = ap (entry_before xs) (add-one c.loop-at.at) in
+          (more.1, c.against-same.ensures.common (entry_before xs c.loop-at.at) (item_at xs c.loop-at.at).entry inv.1 read.0 read.1 ∙ ap (λ (l : List ℕ). common l c.args.entry.now) (sym next));
     }

@@ -24,7 +24,7 @@ overflow_sub-result-3 c =
     let is = packed-seen _ d c.width_of-width.result c.self.inside.items.now c.self.view_is c.self.invariant.packed ew in
     let r : Raw = record { shared = c.in-Some.raw.shared; rest = c.in-Some.raw.rest.now; to = c.in-Some.raw.to.now } in
     let size = grown-inside d c.args.at c.width_of-width.result c.capped-2.result c.capped-3.result c.met_at-met.result.0 c.against-same.result.0 x c.self.inside.items.now c.met_at-met.result.1.now _ r is ew (c.met_at-met.ensures.left d.items is c.requires.at) c.in-Some.ensures
-      (c.met_at-met.ensures.met d.items is c.requires.at) c.against-same.ensures.common c.capped-2.ensures c.capped-3.ensures in
+    (c.met_at-met.ensures.met d.items is c.requires.at) c.against-same.ensures.common c.capped-2.ensures c.capped-3.ensures in
     omega (arith, size, c.size.ensures.size)
 
 pub returns : goal.returns
@@ -35,5 +35,5 @@ returns c to =
     let is = packed-seen _ d c.width_of-width.result c.self.inside.items.now c.self.view_is c.self.invariant.packed ew in
     let r : Raw = record { shared = c.in-Some.raw.shared; rest = c.in-Some.raw.rest.now; to = c.in-Some.raw.to.now } in
     let size = grown-inside d c.args.at c.width_of-width.result c.capped-2.result c.capped-3.result c.met_at-met.result.0 c.against-same.result.0 x c.self.inside.items.now c.met_at-met.result.1.now _ r is ew (c.met_at-met.ensures.left d.items is c.requires.at) c.in-Some.ensures
-      (c.met_at-met.ensures.met d.items is c.requires.at) c.against-same.ensures.common c.capped-2.ensures c.capped-3.ensures in
+    (c.met_at-met.ensures.met d.items is c.requires.at) c.against-same.ensures.common c.capped-2.ensures c.capped-3.ensures in
     omega (arith, size, c.size.ensures.size)
