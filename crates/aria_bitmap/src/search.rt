@@ -1,4 +1,4 @@
-ghost use Rattle.std.specs.Prelude.{◌≡◌, ℕ, ◌+◌, ◌<◌, ◌≤◌, true, false, length, slice_index_or, IsTrue};
+ghost use Rattle.std.specs.Prelude.{◌≡◌, ℕ, ◌+◌, ◌/◌, ◌%◌, ◌<◌, ◌≤◌, true, false, length, slice_index_or, IsTrue};
 ghost use Rattle.aria_page.specs.Page.{page_body};
 ghost use Rattle.aria_bitmap.specs.Pattern.{group, pattern};
 ghost use Rattle.aria_bitmap.specs.Promise.{promises, IsFreeRun, IsLowest};
@@ -38,6 +38,7 @@ fn past_groups(body: &[u8], nth: u32, to: u32, sought: &Sought) -> u32
     ensures low { nth ≤ result }
     ensures high { result ≤ to }
     ensures before { (m : ℕ) → nth ≤ m → m < result → slice_index_or sought.now (pattern body.now m) false ≡ false }
+    ensures found { nth % 8 ≡ 0 → result / 8 < to / 8 → any_sought sought.now 8 (group body.now (result / 8)) ≡ true }
 {
     if nth % GROUP_PATTERNS != 0 {
         return nth;
