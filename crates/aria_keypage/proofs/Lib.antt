@@ -7,5 +7,3 @@ pub mod Options
 pub mod Sought
 pub mod Patch
 pub mod Spliced
-pub mod Grown
-pub mod Whole
