@@ -1,6 +1,7 @@
 ghost use Rattle.std.specs.Prelude.{◌≡◌, alloc_error};
 ghost use Rattle.aria_host.specs.declared.fault.Fault.TheVariants.{Memory};
 
+use crate::FileName;
 use std::alloc::{AllocError, AllocFailed};
 use thiserror::Error;
 
@@ -15,6 +16,12 @@ pub enum Fault {
     Tell,
     #[error("the input could not be read")]
     Input,
+    /// The log is damaged at this page of its file.
+    #[error("the log is damaged at page {page} of file {file}")]
+    LogDamaged { file: u32, page: u32 },
+    /// A file is there that isn't of this program's making.
+    #[error("a file is there that isn't ours")]
+    NotOurs { file: FileName },
 }
 
 impl From<AllocError> for Fault {

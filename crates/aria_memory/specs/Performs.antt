@@ -1,5 +1,5 @@
 -- A statement on tables in memory.
-use Rattle.std.specs.Prelude.{◌≡◌, ℕ, List, ◌++◌, Some, None}
+use Rattle.std.specs.Prelude.{◌≡◌, ℕ, List, ◌++◌, Option, Some, None}
 use Rattle.std.specs.List.{flat_map}
 use Rattle.aria_value.specs.declared.value.Value.{Value}
 use Rattle.aria_model.specs.declared.reply.Reply.{Reply}

@@ -4,3 +4,4 @@ pub mod World
 pub mod Step
 pub mod Text
 pub mod Script
+pub mod Journal

@@ -168,8 +168,9 @@ perform world (Create name definition) exception = create world name definition 
 perform world (Insert name rows) exception = insert world name rows exception
 perform world (Select name key) exception = select world name key
 
--- In place of each refusal but these two stands that the statement isn't built yet.
+-- In place of each refusal but these three stands that the statement isn't built yet.
 abbrev pub built : Refusal → Refusal
+built (LogSpent file) = LogSpent file
 built (Duplicate key) = Duplicate key
 built (NoTable name) = NoTable name
 built why = NotBuilt
