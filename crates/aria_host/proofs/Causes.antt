@@ -14,6 +14,7 @@ disk_cause old mid new fault same is counted later told =
     record {
       only = is;
       counted = λ _. omega (arith, rose);
+      calm = tt;
       later = omega (arith, same.disk, later);
       tell = told ∙ same.tell;
     }
@@ -23,4 +24,4 @@ pub disk_or_memory : {T : Type 0} (old mid new : MemHost) (fault : Fault) → Sa
     → mid.disk_faults ≤ new.disk_faults → new.tell_faults ≡ mid.tell_faults → HasDiskOrMemoryCause {T = T} (mem_state old) (mem_state new) (Err fault)
 disk_or_memory {T = T} old mid new fault same is counted later told =
     let cause = disk_cause {T = T} old mid new fault same is counted later told in
-    record { only = inl is; counted = cause.counted; later = cause.later; tell = cause.tell }
+    record { only = inl is; counted = cause.counted; calm = tt; later = cause.later; tell = cause.tell }

@@ -1,5 +1,5 @@
 -- What each call of a host does.
-use Rattle.std.specs.Prelude.{◌≡◌, ◌⊎◌, ◌≤◌, ℕ, if◌then◌else◌, Bool, false, IsTrue, Option, None, Some, is_some, List, [], ◌++◌, length, take, count_by, Result, IfErr, IsErrOf, alloc_error}
+use Rattle.std.specs.Prelude.{◌≡◌, ◌⊎◌, ◌≤◌, ℕ, if◌then◌else◌, Bool, false, IsTrue, Option, None, Some, is_some, List, [], ◌++◌, length, take, count_by, Result, IfErr, IsErrOf, OnOk, alloc_error}
 use Rattle.std.specs.Option.{option_map}
 use Rattle.aria_host.specs.declared.fault.Fault.{Fault}
 use Rattle.aria_host.specs.declared.fault.Fault.TheVariants.{Memory, Disk, Tell}
@@ -92,17 +92,19 @@ extent_of content = option_map (λ pages. record { pages = length pages; odd = f
 abbrev pub IsPage : FileName → ℕ → Folder → List ℕ → Type 0
 IsPage file at folder page = page_at file at folder ≡ Some page
 
--- It answers no fault but that a stream failed, and that one only where such a fault was counted.
+-- It answers no fault but that a stream failed, and that one only where such a fault was counted; at Ok none was.
 pub record HasTellCause {T : Type 0} (old new : State) (result : Result T Fault) : Type 0 where
   pub only : IfErr result (λ fault. fault ≡ Tell)
   pub counted : IsErrOf result Tell → Rose old.tell_faults new.tell_faults
+  pub calm : OnOk result (new.tell_faults ≡ old.tell_faults)
   pub later : old.tell_faults ≤ new.tell_faults
   pub disk : new.disk_faults ≡ old.disk_faults
 
--- It answers no fault but that the disk failed, and that one only where such a fault was counted.
+-- It answers no fault but that the disk failed, and that one only where such a fault was counted; at Ok none was.
 pub record HasDiskCause {T : Type 0} (old new : State) (result : Result T Fault) : Type 0 where
   pub only : IfErr result (λ fault. fault ≡ Disk)
   pub counted : IsErrOf result Disk → Rose old.disk_faults new.disk_faults
+  pub calm : OnOk result (new.disk_faults ≡ old.disk_faults)
   pub later : old.disk_faults ≤ new.disk_faults
   pub tell : new.tell_faults ≡ old.tell_faults
 
@@ -110,5 +112,6 @@ pub record HasDiskCause {T : Type 0} (old new : State) (result : Result T Fault)
 pub record HasDiskOrMemoryCause {T : Type 0} (old new : State) (result : Result T Fault) : Type 0 where
   pub only : IfErr result (λ fault. (fault ≡ Disk) ⊎ (fault ≡ Memory alloc_error))
   pub counted : IsErrOf result Disk → Rose old.disk_faults new.disk_faults
+  pub calm : OnOk result (new.disk_faults ≡ old.disk_faults)
   pub later : old.disk_faults ≤ new.disk_faults
   pub tell : new.tell_faults ≡ old.tell_faults

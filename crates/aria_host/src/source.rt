@@ -1,4 +1,4 @@
-ghost use Rattle.std.specs.Prelude.{ℕ, ◌<◌, ◌≤◌, List, Bool, length, IfOk, IfErr};
+ghost use Rattle.std.specs.Prelude.{◌≡◌, ℕ, ◌<◌, ◌≤◌, List, Bool, length, IfOk, IfErr, OnOk};
 ghost use Rattle.aria_host.specs.Source.{Takes, TakesNone};
 
 use crate::Fault;
@@ -22,5 +22,6 @@ pub trait Source {
         requires { 0 < length into.old }
         ensures ok { IfOk result (λ n. Takes tells n into.new (left self.old) (left self.new) (taken self.old) (taken self.new)) }
         ensures err { IfErr result (λ fault. TakesNone fault (left self.old) (left self.new) (taken self.old) (taken self.new) (faults self.old) (faults self.new)) }
-        ensures faults { faults self.old ≤ faults self.new };
+        ensures faults { faults self.old ≤ faults self.new }
+        ensures calm { OnOk result (faults self.new ≡ faults self.old) };
 }

@@ -5,3 +5,4 @@ pub mod Runs
 pub mod Log
 pub mod Collected
 pub mod Opened
+pub mod Places

@@ -1,0 +1,4 @@
+pub mod Holds
+pub mod Store
+pub mod Done
+pub mod Outcomes

@@ -1,0 +1,17 @@
+//! The engine: tables that survive any crash, on which the lines of a script are executed.
+//!
+//! A `Store` holds the tables of a folder. `open` reads them from the folder's log, or tells what is damaged there.
+//! `execute` executes one line: where it changes the tables, the line is in the log and on the disk before its reply is
+//! told. At each moment a crash leaves the tables after some of the statements, among them each whose reply was told.
+//!
+//! A store that has answered a fault keeps it: each later call answers it and does nothing.
+#![tactic(auto)]
+
+mod execute;
+mod open;
+mod outcome;
+mod store;
+mod tally;
+
+pub use outcome::Outcome;
+pub use store::Store;
