@@ -1,4 +1,4 @@
-ghost use Rattle.std.specs.Prelude.{◌≡◌, ◌+◌, ◌-◌, ◌^◌, ◌<◌, ◌≤◌, ◌∷◌, ◌++◌, [], min, length, take, drop, IfOk, IfErr, IsOk, IsErr, is_ok, if◌then◌else◌, true, false};
+ghost use Rattle.std.specs.Prelude.{◌≡◌, ◌+◌, ◌-◌, ◌^◌, ◌<◌, ◌≤◌, ◌∷◌, ◌++◌, [], min, length, take, drop, IfOk, IfErr, OnOk, IsOk, IsErr, is_ok, if◌then◌else◌, true, false};
 ghost use Rattle.aria_host.specs.Source.{Takes, TakesNone};
 ghost use Rattle.aria_host.specs.MemSource.{left_of, read_will_fail, IsAtStart, SameSource};
 
@@ -84,6 +84,7 @@ impl Source for MemSource {
         ensures ok { IfOk result (λ n. Takes true n into.new (left_of self.old) (left_of self.new) self.old.taken self.new.taken) }
         ensures err { IfErr result (λ fault. TakesNone fault (left_of self.old) (left_of self.new) self.old.taken self.new.taken self.old.faults self.new.faults) }
         ensures faults { self.old.faults ≤ self.new.faults }
+        ensures calm { OnOk result (self.new.faults ≡ self.old.faults) }
 
         // It fails exactly where that is planned, and takes as much as the buffer holds.
         ensures planned { read_will_fail self.old ≡ true → IsErr result }
