@@ -1,6 +1,6 @@
 //! Executes lines.
 
-ghost use Rattle.std.specs.Prelude.{◌≡◌, ◌×◌, ◌∷◌, [], false, true, IfOk, IfErr, IfSome, IsErrOf, OnOk, OnErr, IsTrue, None, Some};
+ghost use Rattle.std.specs.Prelude.{◌≡◌, ◌∷◌, [], false, true, IfOk, IfErr, IfSome, IsErrOf, OnOk, OnErr, IsTrue, None, Some};
 ghost use Rattle.aria_model.specs.Grammar.{is_blank_line};
 ghost use Rattle.aria_engine.specs.Done.{Does, DoesPart};
 ghost use Rattle.aria_engine.specs.Outcomes.{was_refused, was_blank};

@@ -16,7 +16,7 @@ loop-number-preserved g c = record {
       let folder = (g.H.Host.state c.args.host.now).folder in
       let next = page_next c.loop-number.number folder (g.H.Host.state c.loop-number.host).folder c.read_page.new.into (c.loop-number.invariant.same told).folder (c.in_ok-read_page.ensures.page told) in
       c.loop-number.invariant.quiet told ∙ not_begun c.loop-number.number (log_pages folder) c.read_page.new.into c.begins_run.result next c.begins_run.ensures c.if-begins_run.false;
-  disk = omega (arith, c.loop-number.invariant.disk, c.in_ok-read_page.ensures.cause.later);
+  disk = c.in_ok-read_page.ensures.cause.calm ∙ c.loop-number.invariant.disk;
   tell = c.in_ok-read_page.ensures.cause.tell ∙ c.loop-number.invariant.tell;
 }
 

@@ -19,7 +19,7 @@ loop-number-preserved g c = record {
       let next = page_next c.loop-number.number folder (g.H.Host.state c.loop-number.host).folder c.read_page.new.into (c.loop-number.invariant.same told).folder (c.in_ok-read_page.ensures.page told) in
       read_taken (log_pages folder) c.loop-number.number c.loop-number.reader.frames c.take.new.self.frames c.loop-number.reader.run c.take.new.self.run c.loop-number.reader.full c.take.new.self.full c.read_page.new.into c.in_ok-take.field-0
       (c.loop-number.invariant.read told) next (c.in_ok-take.ensures.taken _) c.if-not-branch.false;
-  disk = omega (arith, c.loop-number.invariant.disk, c.in_ok-read_page.ensures.cause.later);
+  disk = c.in_ok-read_page.ensures.cause.calm ∙ c.loop-number.invariant.disk;
   tell = c.in_ok-read_page.ensures.cause.tell ∙ c.loop-number.invariant.tell;
 }
 

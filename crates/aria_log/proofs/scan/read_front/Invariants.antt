@@ -8,6 +8,6 @@ abbrev pub invariant-loop-number : goal.invariant-loop-number
 invariant-loop-number g l = record {
   same : IsTrue g.H.Host.tells → Unchanged (g.H.Host.state l.fn.host) (g.H.Host.state l.host);
   read : IsTrue g.H.Host.tells → IsRead (log_pages (g.H.Host.state l.fn.host).folder) l.number l.reader.frames l.reader.run l.reader.full;
-  disk : (g.H.Host.state l.fn.host).disk_faults ≤ (g.H.Host.state l.host).disk_faults;
+  disk : (g.H.Host.state l.host).disk_faults ≡ (g.H.Host.state l.fn.host).disk_faults;
   tell : (g.H.Host.state l.host).tell_faults ≡ (g.H.Host.state l.fn.host).tell_faults;
 }

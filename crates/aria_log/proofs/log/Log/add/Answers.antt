@@ -40,7 +40,7 @@ loop-at-preserved g c = record {
       adds_next c.loop-at.self c.step.new.self (g.H.Host.state c.args.host.now) (g.H.Host.state c.loop-at.host) (g.H.Host.state c.step.new.host) base text c.args.bytes.now _ c.loop-at.at c.in_ok-at.field-0 (take_rest c.args.bytes.now c.loop-at.at)
       (c.loop-at.invariant.adds told base text is)
       (λ now. c.in_ok-at.ensures.added told base (text ++ take c.loop-at.at c.args.bytes.now) now);
-  disk = omega (arith, c.loop-at.invariant.disk, c.in_ok-at.ensures.cause.later);
+  disk = c.in_ok-at.ensures.cause.calm ∙ c.loop-at.invariant.disk;
   tell = c.in_ok-at.ensures.cause.tell ∙ c.loop-at.invariant.tell;
 }
 

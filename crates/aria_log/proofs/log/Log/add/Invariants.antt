@@ -8,7 +8,7 @@ invariant-loop-at g l = record {
   place_is : place l.self ≡ place l.fn.self + l.at;
   used_is : 1 ≤ l.at → 1 ≤ l.self.used;
   adds : IsTrue g.H.Host.tells → (base : List (List ℕ)) (text : List ℕ) → IsAt l.fn.self (g.H.Host.state l.fn.host) base text → Adds l.self (g.H.Host.state l.fn.host) (g.H.Host.state l.host) base (text ++ take l.at l.bytes) true;
-  disk : (g.H.Host.state l.fn.host).disk_faults ≤ (g.H.Host.state l.host).disk_faults;
+  disk : (g.H.Host.state l.host).disk_faults ≡ (g.H.Host.state l.fn.host).disk_faults;
   tell : (g.H.Host.state l.host).tell_faults ≡ (g.H.Host.state l.fn.host).tell_faults;
 }
 
