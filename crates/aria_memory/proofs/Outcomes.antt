@@ -10,9 +10,10 @@ use Rattle.aria_value.specs.Defined.{same_name}
 use Rattle.aria_value.specs.Order.{key_cmp, sorted}
 use Rattle.aria_model.specs.declared.refusal.Refusal.{Refusal}
 use Rattle.aria_model.specs.declared.refusal.Refusal.TheVariants.{NoTable, TableExists, NoKey, TooManyRows}
+use Rattle.aria_model.specs.declared.refusal.Exception.{Exception}
 use Rattle.aria_model.specs.declared.reply.Reply.TheVariants.{Done, Count}
 use Rattle.aria_model.specs.World.{World, Table, Content, Sound, Crashed, with_table}
-use Rattle.aria_model.specs.Step.{Outcome, refused, first_of, refused_where, unless, is_taken, create, Puts, put_all, inserted, insert_into, insert, option_suc, key_number, select_from, select}
+use Rattle.aria_model.specs.Step.{Outcome, refused, first_of, refused_where, unless, spent, is_taken, create, Puts, put_all, inserted, insert_into, insert, option_suc, key_number, select_from, select}
 use Rattle.aria_memory.specs.Keyed.{are_number_keys, has_number_key}
 
 -- a transactional table of these rows
@@ -21,64 +22,71 @@ sound d rows = record { definition = d; plain = false; content = Sound rows }
 
 -- ---- create
 
-pub create_taken : (world : World) (name : List ℕ) (d : Definition) → is_taken (world name) ≡ true → create world name d None ≡ refused world (TableExists name)
-create_taken world name d taken = λ i. unless (first_of (refused_where (taken i) (TableExists name) ∷ None ∷ [])) world
+-- a create of a name that is taken or free, with the exception that it met
+abbrev creates : World → List ℕ → Definition → Option Exception → Bool → Outcome
+creates world name d exception taken = unless (first_of (refused_where taken (TableExists name) ∷ spent exception ∷ [])) world
     (record { world = with_table world name (Some (sound d [])); rows = []; reply = Done })
 
-pub create_free : (world : World) (name : List ℕ) (d : Definition) → is_taken (world name) ≡ false
-    → create world name d None ≡ record { world = with_table world name (Some (sound d [])); rows = []; reply = Done }
-create_free world name d free = λ i. unless (first_of (refused_where (free i) (TableExists name) ∷ None ∷ [])) world
-    (record { world = with_table world name (Some (sound d [])); rows = []; reply = Done })
+pub create_taken : (world : World) (name : List ℕ) (d : Definition) (exception : Option Exception) → is_taken (world name) ≡ true
+    → create world name d exception ≡ refused world (TableExists name)
+create_taken world name d exception taken = ap (creates world name d exception) taken
+
+pub create_free : (world : World) (name : List ℕ) (d : Definition) (exception : Option Exception) → is_taken (world name) ≡ false → exception ≡ None
+    → create world name d exception ≡ record { world = with_table world name (Some (sound d [])); rows = []; reply = Done }
+create_free world name d exception free none = λ i. creates world name d (none i) (free i)
 
 no_rows_unless : (refusal : Option Refusal) (world : World) (outcome : Outcome) → outcome.rows ≡ [] → (unless refusal world outcome).rows ≡ []
 no_rows_unless None world outcome none = none
 no_rows_unless (Some why) world outcome none = refl
 
 -- a create tells no rows
-pub create-rows : (world : World) (name : List ℕ) (d : Definition) → (create world name d None).rows ≡ []
-create-rows world name d = no_rows_unless (first_of (refused_where (is_taken (world name)) (TableExists name) ∷ None ∷ [])) world
+pub create-rows : (world : World) (name : List ℕ) (d : Definition) (exception : Option Exception) → (create world name d exception).rows ≡ []
+create-rows world name d exception = no_rows_unless (first_of (refused_where (is_taken (world name)) (TableExists name) ∷ spent exception ∷ [])) world
     (record { world = with_table world name (Some (sound d [])); rows = []; reply = Done }) refl
 
 -- ---- insert
 
 -- an insert at what a name has
-abbrev insert_at : World → List ℕ → List (List Value) → Option Table → Outcome
-insert_at world name rows found = elim found [
+abbrev insert_at : World → List ℕ → List (List Value) → Option Exception → Option Table → Outcome
+insert_at world name rows exception found = elim found [
   | None ↦ refused world (NoTable name)
-  | Some table ↦ insert_into world name table table.content rows None
+  | Some table ↦ insert_into world name table table.content rows exception
 ]
 
-pub insert_absent : (world : World) (name : List ℕ) (rows : List (List Value)) → world name ≡ None → insert world name rows None ≡ refused world (NoTable name)
-insert_absent world name rows absent = ap (insert_at world name rows) absent
+pub insert_absent : (world : World) (name : List ℕ) (rows : List (List Value)) (exception : Option Exception) → world name ≡ None
+    → insert world name rows exception ≡ refused world (NoTable name)
+insert_absent world name rows exception absent = ap (insert_at world name rows exception) absent
 
--- an insert of more rows than a statement may have, or not, whose rows leave these
-abbrev inserts : World → List ℕ → Table → ℕ → Bool → Puts → Outcome
-inserts world name table count many puts = unless (first_of (refused_where many TooManyRows ∷ None ∷ [])) world (inserted world name table count puts)
+-- an insert of more rows than a statement may have, or not, with the exception that it met, whose rows leave these
+abbrev inserts : World → List ℕ → Table → ℕ → Bool → Option Exception → Puts → Outcome
+inserts world name table count many exception puts = unless (first_of (refused_where many TooManyRows ∷ spent exception ∷ [])) world (inserted world name table count puts)
 
-inserts_by : (world : World) (name : List ℕ) (d : Definition) (old rows : List (List Value)) (many : Bool) (puts : Puts) → world name ≡ Some (sound d old)
-    → nat_lt 65536 (length rows) ≡ many → put_all d None 1 old rows ≡ puts → insert world name rows None ≡ inserts world name (sound d old) (length rows) many puts
-inserts_by world name d old rows many puts has m p =
-    ap (insert_at world name rows) has ∙ (λ i. inserts world name (sound d old) (length rows) (m i) (p i))
+inserts_by : (world : World) (name : List ℕ) (d : Definition) (old rows : List (List Value)) (many : Bool) (exception : Option Exception) (puts : Puts) → world name ≡ Some (sound d old)
+    → nat_lt 65536 (length rows) ≡ many → put_all d exception 1 old rows ≡ puts → insert world name rows exception ≡ inserts world name (sound d old) (length rows) many exception puts
+inserts_by world name d old rows many exception puts has m p =
+    ap (insert_at world name rows exception) has ∙ (λ i. inserts world name (sound d old) (length rows) (m i) exception (p i))
 
-pub insert_many : (world : World) (name : List ℕ) (d : Definition) (old rows : List (List Value)) → world name ≡ Some (sound d old) → nat_lt 65536 (length rows) ≡ true
-    → insert world name rows None ≡ refused world TooManyRows
-insert_many world name d old rows has many = inserts_by world name d old rows true (put_all d None 1 old rows) has many refl
+pub insert_many : (world : World) (name : List ℕ) (d : Definition) (old rows : List (List Value)) (exception : Option Exception) → world name ≡ Some (sound d old)
+    → nat_lt 65536 (length rows) ≡ true → insert world name rows exception ≡ refused world TooManyRows
+insert_many world name d old rows exception has many = inserts_by world name d old rows true exception (put_all d exception 1 old rows) has many refl
 
 -- what rows leave, by its parts
 same_puts : (puts : Puts) (rows : List (List Value)) (refusal : Option Refusal) → rows ≡ puts.rows → refusal ≡ puts.refusal → puts ≡ record { rows = rows; refusal = refusal }
 same_puts puts rows refusal r f = λ i. record { rows = sym r i; refusal = sym f i }
 
-pub insert_refused : (world : World) (name : List ℕ) (d : Definition) (old rows : List (List Value)) (why : Refusal) → world name ≡ Some (sound d old) → nat_lt 65536 (length rows) ≡ false
-    → Some why ≡ (put_all d None 1 old rows).refusal → insert world name rows None ≡ refused world why
-insert_refused world name d old rows why has few refusal =
-    inserts_by world name d old rows false (record { rows = (put_all d None 1 old rows).rows; refusal = Some why }) has few
+pub insert_refused : (world : World) (name : List ℕ) (d : Definition) (old rows : List (List Value)) (exception : Option Exception) (why : Refusal) → world name ≡ Some (sound d old)
+    → nat_lt 65536 (length rows) ≡ false → exception ≡ None → Some why ≡ (put_all d None 1 old rows).refusal → insert world name rows exception ≡ refused world why
+insert_refused world name d old rows exception why has few none refusal =
+    ap (insert world name rows) none
+    ∙ inserts_by world name d old rows false None (record { rows = (put_all d None 1 old rows).rows; refusal = Some why }) has few
     (same_puts (put_all d None 1 old rows) (put_all d None 1 old rows).rows (Some why) refl refusal)
 
-pub insert_put : (world : World) (name : List ℕ) (d : Definition) (old rows new : List (List Value)) → world name ≡ Some (sound d old) → nat_lt 65536 (length rows) ≡ false
-    → None ≡ (put_all d None 1 old rows).refusal → new ≡ (put_all d None 1 old rows).rows
-    → insert world name rows None ≡ record { world = with_table world name (Some (sound d new)); rows = []; reply = Count (length rows) }
-insert_put world name d old rows new has few refusal leaves =
-    inserts_by world name d old rows false (record { rows = new; refusal = None }) has few (same_puts (put_all d None 1 old rows) new None leaves refusal)
+pub insert_put : (world : World) (name : List ℕ) (d : Definition) (old rows new : List (List Value)) (exception : Option Exception) → world name ≡ Some (sound d old)
+    → nat_lt 65536 (length rows) ≡ false → exception ≡ None → None ≡ (put_all d None 1 old rows).refusal → new ≡ (put_all d None 1 old rows).rows
+    → insert world name rows exception ≡ record { world = with_table world name (Some (sound d new)); rows = []; reply = Count (length rows) }
+insert_put world name d old rows new exception has few none refusal leaves =
+    ap (insert world name rows) none
+    ∙ inserts_by world name d old rows false None (record { rows = new; refusal = None }) has few (same_puts (put_all d None 1 old rows) new None leaves refusal)
 
 inserted-rows : (world : World) (name : List ℕ) (table : Table) (count : ℕ) (rows : List (List Value)) (refusal : Option Refusal) (plain : Bool) → table.plain ≡ plain
     → (inserted world name table count (record { rows = rows; refusal = refusal })).rows ≡ []
@@ -86,20 +94,21 @@ inserted-rows world name table count rows None plain is = refl
 inserted-rows world name table count rows (Some why) true is = rw is refl
 inserted-rows world name table count rows (Some why) false is = rw is refl
 
-insert_into-rows : (world : World) (name : List ℕ) (table : Table) (content : Content) (rows : List (List Value)) → (insert_into world name table content rows None).rows ≡ []
-insert_into-rows world name table Crashed rows = refl
-insert_into-rows world name table (Sound old) rows =
-    no_rows_unless (first_of (refused_where (nat_lt 65536 (length rows)) TooManyRows ∷ cond table.plain None None ∷ [])) world
-    (inserted world name table (length rows) (put_all table.definition None 1 old rows))
-    (inserted-rows world name table (length rows) (put_all table.definition None 1 old rows).rows (put_all table.definition None 1 old rows).refusal table.plain refl)
+insert_into-rows : (world : World) (name : List ℕ) (table : Table) (content : Content) (rows : List (List Value)) (exception : Option Exception)
+    → (insert_into world name table content rows exception).rows ≡ []
+insert_into-rows world name table Crashed rows exception = refl
+insert_into-rows world name table (Sound old) rows exception =
+    let puts = put_all table.definition exception 1 old rows in
+    no_rows_unless (first_of (refused_where (nat_lt 65536 (length rows)) TooManyRows ∷ cond table.plain None (spent exception) ∷ [])) world
+    (inserted world name table (length rows) puts) (inserted-rows world name table (length rows) puts.rows puts.refusal table.plain refl)
 
-insert_at-rows : (world : World) (name : List ℕ) (rows : List (List Value)) (found : Option Table) → (insert_at world name rows found).rows ≡ []
-insert_at-rows world name rows None = refl
-insert_at-rows world name rows (Some table) = insert_into-rows world name table table.content rows
+insert_at-rows : (world : World) (name : List ℕ) (rows : List (List Value)) (exception : Option Exception) (found : Option Table) → (insert_at world name rows exception found).rows ≡ []
+insert_at-rows world name rows exception None = refl
+insert_at-rows world name rows exception (Some table) = insert_into-rows world name table table.content rows exception
 
 -- an insert tells no rows
-pub insert-rows : (world : World) (name : List ℕ) (rows : List (List Value)) → (insert world name rows None).rows ≡ []
-insert-rows world name rows = insert_at-rows world name rows (world name)
+pub insert-rows : (world : World) (name : List ℕ) (rows : List (List Value)) (exception : Option Exception) → (insert world name rows exception).rows ≡ []
+insert-rows world name rows exception = insert_at-rows world name rows exception (world name)
 
 -- ---- select
 

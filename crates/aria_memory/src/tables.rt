@@ -27,15 +27,26 @@ pub struct Tables {
 }
 
 impl Table {
+    ghost use Rattle.std.specs.Option.{option_map};
+    ghost use Rattle.aria_model.specs.declared.refusal.Exception.TheVariants.{Spent};
     ghost use Rattle.aria_memory.specs.Worlds.{table_of};
     ghost use Rattle.aria_memory.specs.Performs.{InsertsInto, SelectsFrom};
 
-    fn insert(&mut self, alloc: Global, rows: List<Row>) -> Result<Reply, AllocError>
-        ensures inserts { IfOk result (λ reply. InsertsInto (table_of self.old) rows (table_of self.new) reply) }
+    fn insert(
+        &mut self,
+        alloc: Global,
+        rows: List<Row>,
+        spent: Option<u32>,
+    ) -> Result<Reply, AllocError>
+        ensures inserts { IfOk result (λ reply. InsertsInto (table_of self.old) rows (option_map Spent spent) (table_of self.new) reply) }
         ensures err { OnErr result (table_of self.new ≡ table_of self.old) }
     {
         if rows.len() > MAX_STATEMENT_ROWS {
             return Ok(Reply::No(Refusal::TooManyRows));
+        }
+        match spent {
+            Some(file) => return Ok(Reply::No(Refusal::LogSpent { file })),
+            None => {}
         }
         let count = rows.len() as u64;
         match insert_all(alloc, &self.definition, &mut self.rows, rows.into_vec())? {
@@ -56,8 +67,12 @@ impl Table {
 }
 
 impl Tables {
-    ghost use Rattle.std.specs.Prelude.{None};
+    ghost use Rattle.std.specs.Prelude.{Option, false};
+    ghost use Rattle.std.specs.Option.{option_map};
+    ghost use Rattle.aria_model.specs.declared.refusal.Exception.{Exception};
+    ghost use Rattle.aria_model.specs.declared.refusal.Exception.TheVariants.{Spent};
     ghost use Rattle.aria_model.specs.Step.{create, insert};
+    ghost use Rattle.aria_model.specs.Journal.{changes};
     ghost use Rattle.aria_model.specs.declared.statement.Statement.TheVariants as statements;
     ghost use Rattle.aria_memory.specs.Worlds.{world_of};
     ghost use Rattle.aria_memory.specs.Performs.{Leaves, Performs};
@@ -76,13 +91,18 @@ impl Tables {
         alloc: Global,
         name: Name,
         definition: Definition,
+        spent: Option<u32>,
     ) -> Result<Reply, AllocError>
         requires { HasNumberKey definition }
-        ensures creates { IfOk result (λ reply. Leaves (create (world_of self.old) name definition None) (world_of self.new) reply) }
+        ensures creates { IfOk result (λ reply. Leaves (create (world_of self.old) name definition (option_map Spent spent)) (world_of self.new) reply) }
         ensures err { OnErr result (world_of self.new ≡ world_of self.old) }
     {
         if self.by_name.contains_key(&name) {
             return Ok(Reply::No(Refusal::TableExists { name }));
+        }
+        match spent {
+            Some(file) => return Ok(Reply::No(Refusal::LogSpent { file })),
+            None => {}
         }
         let table = Table {
             definition,
@@ -92,18 +112,24 @@ impl Tables {
         Ok(Reply::Done)
     }
 
-    fn insert(&mut self, alloc: Global, name: Name, rows: List<Row>) -> Result<Reply, AllocError>
-        ensures inserts { IfOk result (λ reply. Leaves (insert (world_of self.old) name rows None) (world_of self.new) reply) }
+    fn insert(
+        &mut self,
+        alloc: Global,
+        name: Name,
+        rows: List<Row>,
+        spent: Option<u32>,
+    ) -> Result<Reply, AllocError>
+        ensures inserts { IfOk result (λ reply. Leaves (insert (world_of self.old) name rows (option_map Spent spent)) (world_of self.new) reply) }
         ensures err { OnErr result (world_of self.new ≡ world_of self.old) }
     {
         match self.by_name.get_mut(&name) {
             None => Ok(Reply::No(Refusal::NoTable { name })),
-            Some(table) => table.insert(alloc, rows),
+            Some(table) => table.insert(alloc, rows, spent),
         }
     }
 
     fn select(&self, name: Name, key: Name, text: &mut Bytes) -> Result<Reply, AllocError>
-        ensures { IfOk result (λ reply. Performs (world_of self.now) (statements.Select name key) (world_of self.now) text.old text.new reply) }
+        ensures { IfOk result (λ reply. (exception : Option Exception) → Performs (world_of self.now) (statements.Select name key) exception (world_of self.now) text.old text.new reply) }
     {
         match self.by_name.get(&name) {
             None => Ok(Reply::No(Refusal::NoTable { name })),
@@ -111,21 +137,25 @@ impl Tables {
         }
     }
 
-    /// Executes a statement, and adds the lines of the rows that it tells to `text`. Without memory the
-    /// tables stay as they were, and what `text` holds is not to be told.
+    /// Executes a statement, and adds the lines of the rows that it tells to `text`. Where the log has no
+    /// room, `spent` is the number of its last file: then a statement that would be logged is refused, in its
+    /// place in the order. Without memory the tables stay as they were, and what `text` holds is not to be
+    /// told.
     pub fn execute(
         &mut self,
         alloc: Global,
         statement: Statement,
+        spent: Option<u32>,
         text: &mut Bytes,
     ) -> Result<Reply, AllocError>
         requires { IsSpelled statement }
-        ensures performs { IfOk result (λ reply. Performs (world_of self.old) statement (world_of self.new) text.old text.new reply) }
+        ensures performs { IfOk result (λ reply. Performs (world_of self.old) statement (option_map Spent spent) (world_of self.new) text.old text.new reply) }
+        ensures kept { IfOk result (λ reply. changes statement reply ≡ false → world_of self.new ≡ world_of self.old) }
         ensures err { OnErr result (world_of self.new ≡ world_of self.old) }
     {
         match statement {
-            Statement::Create { name, definition } => self.create(alloc, name, definition),
-            Statement::Insert { name, rows } => self.insert(alloc, name, rows),
+            Statement::Create { name, definition } => self.create(alloc, name, definition, spent),
+            Statement::Insert { name, rows } => self.insert(alloc, name, rows, spent),
             Statement::Select { name, key } => self.select(name, key, text),
         }
     }

@@ -9,7 +9,7 @@ use Rattle.aria_model.specs.declared.statement.Statement.TheVariants.{Create, In
 use Rattle.aria_model.specs.Grammar.{read_line}
 use Rattle.aria_model.specs.World.{World}
 use Rattle.aria_model.specs.Step.{option_suc, perform, step}
-use Rattle.aria_model.specs.Script.{Exceptions, no_exception, is_refused}
+use Rattle.aria_model.specs.Script.{is_refused}
 
 -- A statement with this reply changed the tables: it is of a kind that changes them, and was accepted.
 abbrev pub changes : Statement → Reply → Bool

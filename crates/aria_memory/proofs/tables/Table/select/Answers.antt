@@ -11,7 +11,7 @@ use Rattle.aria_memory.proofs.Outcomes.{select_told}
 use Rattle.aria_memory.proofs.tables.Table.select.Goals as goal
 
 pub returns : goal.returns
-returns c = λ world name has.
+returns c = λ world name exception has.
     let table = c.args.self.now in
     let found : true ≡ list_any (λ key. same_name key.name c.args.key) table.definition.keys = cc (c.has_key.ensures, c.as_slice.ensures, c.if-not-has_key.false) in
     let outcome = select_told world name table.definition (values table.rows) c.args.key has table.number_key found

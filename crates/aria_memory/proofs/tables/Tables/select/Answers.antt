@@ -10,5 +10,5 @@ pub returns-in-Some : goal.returns-in-Some
 returns-in-Some c =
     let has : world_of c.args.self.now c.args.name ≡ Some (table_of c.in-Some.table.now) = ap (option_map table_of) (sym c.in-Some.ensures.value) in
     IfOk-weaker c.select.result (SelectsFrom (table_of c.in-Some.table.now) c.args.key c.args.text.now c.select.new.text) _
-    (λ reply selects. selects (world_of c.args.self.now) c.args.name has)
+    (λ reply selects exception. selects (world_of c.args.self.now) c.args.name exception has)
     c.select.ensures

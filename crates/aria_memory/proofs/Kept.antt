@@ -1,0 +1,84 @@
+-- A statement that doesn't change the tables leaves them as they were.
+use Rattle.std.specs.Prelude.{◌≡◌, ℕ, Bool, false, not, cond, nat_lt, List, [], ◌∷◌, length, Option, Some, None, refl}
+use Rattle.std.specs.Option.{option_map}
+use Rattle.std.specs.BTreeMap.{get}
+use Rattle.std.specs.Cmp.Lexicographic.{slice_cmp}
+use Rattle.std.specs.Ordering.{nat_cmp}
+use Rattle.aria_value.specs.declared.value.Value.{Value}
+use Rattle.aria_value.specs.declared.definition.Definition.{Definition}
+use Rattle.aria_model.specs.declared.refusal.Refusal.{Refusal}
+use Rattle.aria_model.specs.declared.refusal.Refusal.TheVariants.{NoTable, TableExists, TooManyRows}
+use Rattle.aria_model.specs.declared.refusal.Exception.{Exception}
+use Rattle.aria_model.specs.declared.reply.Reply.TheVariants.{Done}
+use Rattle.aria_model.specs.declared.statement.Statement.TheVariants.{Create, Insert}
+use Rattle.aria_model.specs.World as model
+use Rattle.aria_model.specs.World.{World, Content, Sound, Crashed, with_table}
+use Rattle.aria_model.specs.Step.{Outcome, refused, first_of, refused_where, unless, spent, is_taken, create, put_all, inserted, insert_into, insert}
+use Rattle.aria_model.specs.Script.{is_refused}
+use Rattle.aria_model.specs.Journal.{changes}
+use Rattle.aria_memory.specs.declared.tables.Table.{Table}
+use Rattle.aria_memory.specs.declared.tables.Tables.{Tables}
+use Rattle.aria_memory.specs.Worlds.{table_of, world_of}
+
+-- a table is there, and is a plain one
+abbrev pub is_plain : Option model.Table → Bool
+is_plain None = false
+is_plain (Some table) = table.plain
+
+-- the world has no plain tables
+abbrev pub HasNoPlain : World → Type 0
+HasNoPlain world = (name : List ℕ) → is_plain (world name) ≡ false
+
+transactional : (found : Option Table) → is_plain (option_map table_of found) ≡ false
+transactional None = refl
+transactional (Some table) = refl
+
+-- tables in memory are none
+pub no_plain : (tables : Tables) → HasNoPlain (world_of tables)
+no_plain tables = λ name. transactional (get (slice_cmp nat_cmp) tables.by_name name)
+
+-- where the outcome is a refusal, this is left
+abbrev Keeps : World → Outcome → Type 0
+Keeps world outcome = not (is_refused outcome.reply) ≡ false → outcome.world ≡ world
+
+unless_keeps : (refusal : Option Refusal) (world : World) (outcome : Outcome) → Keeps world outcome → Keeps world (unless refusal world outcome)
+unless_keeps None world outcome keeps = keeps
+unless_keeps (Some why) world outcome keeps = λ _. refl
+
+create_keeps : (world : World) (name : List ℕ) (d : Definition) (exception : Option Exception) → Keeps world (create world name d exception)
+create_keeps world name d exception = unless_keeps (first_of (refused_where (is_taken (world name)) (TableExists name) ∷ spent exception ∷ [])) world
+    (record { world = with_table world name (Some (record { definition = d; plain = false; content = Sound [] })); rows = []; reply = Done }) (λ h. absurd (cc))
+
+inserted_keeps : (world : World) (name : List ℕ) (table : model.Table) (count : ℕ) (rows : List (List Value)) (refusal : Option Refusal) → table.plain ≡ false
+    → Keeps world (inserted world name table count (record { rows = rows; refusal = refusal }))
+inserted_keeps world name table count rows None plain = λ h. absurd (cc)
+inserted_keeps world name table count rows (Some why) plain = rw plain (λ _. refl)
+
+insert_into_keeps : (world : World) (name : List ℕ) (table : model.Table) (content : Content) (rows : List (List Value)) (exception : Option Exception) → table.plain ≡ false
+    → Keeps world (insert_into world name table content rows exception)
+insert_into_keeps world name table Crashed rows exception plain = λ _. refl
+insert_into_keeps world name table (Sound old) rows exception plain =
+    let puts = put_all table.definition exception 1 old rows in
+    unless_keeps (first_of (refused_where (nat_lt 65536 (length rows)) TooManyRows ∷ cond table.plain None (spent exception) ∷ [])) world
+    (inserted world name table (length rows) puts) (inserted_keeps world name table (length rows) puts.rows puts.refusal plain)
+
+-- an insert at what a name has
+abbrev insert_at : World → List ℕ → List (List Value) → Option Exception → Option model.Table → Outcome
+insert_at world name rows exception found = elim found [
+  | None ↦ refused world (NoTable name)
+  | Some table ↦ insert_into world name table table.content rows exception
+]
+
+insert_at_keeps : (world : World) (name : List ℕ) (rows : List (List Value)) (exception : Option Exception) (found : Option model.Table) → is_plain found ≡ false
+    → Keeps world (insert_at world name rows exception found)
+insert_at_keeps world name rows exception None plain = λ _. refl
+insert_at_keeps world name rows exception (Some table) plain = insert_into_keeps world name table table.content rows exception plain
+
+-- A create or an insert that is refused leaves a world without plain tables as it was.
+pub create_kept : (world : World) (name : List ℕ) (d : Definition) (exception : Option Exception)
+    → changes (Create name d) (create world name d exception).reply ≡ false → (create world name d exception).world ≡ world
+create_kept world name d exception = create_keeps world name d exception
+
+pub insert_kept : (world : World) (name : List ℕ) (rows : List (List Value)) (exception : Option Exception) → HasNoPlain world
+    → changes (Insert name rows) (insert world name rows exception).reply ≡ false → (insert world name rows exception).world ≡ world
+insert_kept world name rows exception plain = insert_at_keeps world name rows exception (world name) (plain name)
