@@ -1,6 +1,6 @@
 -- How rows and replies are spelled.
-use Rattle.std.specs.Prelude.{ℕ, Bool, ◌&&◌, ◌==◌, nat_le, if◌then◌else◌, List, [], ◌∷◌, ◌++◌, codes, decimal, ◌+◌, ◌/◌, ◌%◌, nat_lt}
-use Rattle.std.specs.List.{list_all, flat_map, join_by}
+use Rattle.std.specs.Prelude.{◌≡◌, ℕ, Bool, false, ◌&&◌, ◌==◌, nat_le, if◌then◌else◌, List, [], ◌∷◌, ◌++◌, codes, decimal, ◌+◌, ◌/◌, ◌%◌, nat_lt}
+use Rattle.std.specs.List.{list_all, list_any, flat_map, join_by}
 use Rattle.std.specs.Fmt.{signed_decimal}
 use Rattle.aria_value.specs.declared.value.Value.{Value}
 use Rattle.aria_value.specs.declared.value.Value.TheVariants.{Null, Int, Text}
@@ -72,3 +72,11 @@ abbrev pub reply_text : Reply → List ℕ
 reply_text Done = codes "ok" ++ 10 ∷ []
 reply_text (Count n) = codes "ok " ++ decimal n ++ 10 ∷ []
 reply_text (No why) = codes "no " ++ refusal_text why ++ 10 ∷ []
+
+-- no byte is LF
+abbrev pub HasNoLineEnd : List ℕ → Type 0
+HasNoLineEnd bytes = list_any (λ b. b == 10) bytes ≡ false
+
+-- a line with its LF, and no LF before that
+abbrev pub IsOneLine : List ℕ → Type 0
+IsOneLine text = (line : List ℕ) × (text ≡ line ++ 10 ∷ []) × HasNoLineEnd line

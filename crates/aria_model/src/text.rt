@@ -4,11 +4,12 @@ ghost use Rattle.std.specs.Prelude.{◌≡◌, ◌<◌, ◌++◌, decimal, codes
 ghost use Rattle.std.specs.List.{list_all, flat_map, join_by};
 ghost use Rattle.std.specs.Fmt.{signed_decimal};
 ghost use Rattle.aria_value.specs.declared.value.Value.TheVariants.{Text};
-ghost use Rattle.aria_model.specs.Text.{is_printed, quoted, hex_digit, hex, value_text, which_text, refusal_text, row_text as row_spelled, reply_text as reply_spelled};
+ghost use Rattle.aria_model.specs.declared.reply.Reply.TheVariants.{Count, No};
+ghost use Rattle.aria_model.specs.Text.{is_printed, quoted, hex_digit, hex, value_text, which_text, refusal_text, row_text as row_spelled, reply_text as reply_spelled, HasNoLineEnd, IsOneLine};
 
 use crate::refusal::{Refusal, Which};
 use crate::reply::Reply;
-use aria_page::Bytes;
+use aria_page::{Bytes, Name};
 use aria_value::{Row, Value};
 use itoa::Buffer;
 use std::alloc::{AllocError, Global};
@@ -138,11 +139,18 @@ fn which_text(which: Which) -> &'static [u8]
     }
 }
 
-fn push_named(out: &mut Bytes, what: &[u8], name: &[u8]) -> Result<(), AllocError>
-    ensures { OnOk result (out.new ≡ out.old ++ (what.now ++ name.now)) }
+fn push_both(out: &mut Bytes, first: &[u8], second: &[u8]) -> Result<(), AllocError>
+    ensures { OnOk result (out.new ≡ out.old ++ (first.now ++ second.now)) }
 {
-    out.extend_from_slice(what)?;
-    out.extend_from_slice(name)
+    out.extend_from_slice(first)?;
+    out.extend_from_slice(second)
+}
+
+fn push_named(out: &mut Bytes, what: &[u8], name: &Name) -> Result<(), AllocError>
+    ensures spelled { OnOk result (out.new ≡ out.old ++ (what.now ++ name.now)) }
+    ensures on_line { HasNoLineEnd what.now → HasNoLineEnd (what.now ++ name.now) }
+{
+    push_both(out, what, name.as_slice())
 }
 
 fn push_counted(out: &mut Bytes, what: &[u8], number: u64) -> Result<(), AllocError>
@@ -153,7 +161,8 @@ fn push_counted(out: &mut Bytes, what: &[u8], number: u64) -> Result<(), AllocEr
 }
 
 fn push_refusal_text(out: &mut Bytes, refusal: &Refusal) -> Result<(), AllocError>
-    ensures { OnOk result (out.new ≡ out.old ++ refusal_text refusal.now) }
+    ensures spelled { OnOk result (out.new ≡ out.old ++ refusal_text refusal.now) }
+    ensures on_line { HasNoLineEnd (refusal_text refusal.now) }
 {
     match refusal {
         Refusal::BadStatement { at } => push_counted(out, b"bad statement at ", *at),
@@ -161,17 +170,17 @@ fn push_refusal_text(out: &mut Bytes, refusal: &Refusal) -> Result<(), AllocErro
         Refusal::NumberTooWide { at } => push_counted(out, b"number too wide at ", *at),
         Refusal::LogSpent { file } => push_counted(out, b"log spent ", u64::from(*file)),
         Refusal::TableFull { pages } => push_counted(out, b"table full ", u64::from(*pages)),
-        Refusal::TableCrashed { name } => push_named(out, b"table crashed ", name.as_slice()),
-        Refusal::Duplicate { key } => push_named(out, b"duplicate ", key.as_slice()),
+        Refusal::TableCrashed { name } => push_named(out, b"table crashed ", name),
+        Refusal::Duplicate { key } => push_named(out, b"duplicate ", key),
         Refusal::RowTooLong => out.extend_from_slice(b"row too long"),
-        Refusal::BadValue { column } => push_named(out, b"bad value ", column.as_slice()),
+        Refusal::BadValue { column } => push_named(out, b"bad value ", column),
         Refusal::RowsFull => out.extend_from_slice(b"rows full"),
-        Refusal::NoTable { name } => push_named(out, b"table ", name.as_slice()),
-        Refusal::TableExists { name } => push_named(out, b"table exists ", name.as_slice()),
-        Refusal::NoKey { name } => push_named(out, b"key ", name.as_slice()),
+        Refusal::NoTable { name } => push_named(out, b"table ", name),
+        Refusal::TableExists { name } => push_named(out, b"table exists ", name),
+        Refusal::NoKey { name } => push_named(out, b"key ", name),
         Refusal::TooManyRows => out.extend_from_slice(b"too many rows"),
-        Refusal::BadDefinition { which } => push_named(out, b"bad definition ", which_text(*which)),
-        Refusal::NoColumn { name } => push_named(out, b"column ", name.as_slice()),
+        Refusal::BadDefinition { which } => push_both(out, b"bad definition ", which_text(*which)),
+        Refusal::NoColumn { name } => push_named(out, b"column ", name),
         Refusal::NotBuilt => out.extend_from_slice(b"not built"),
     }
 }
@@ -185,23 +194,32 @@ pub fn push_row_text(out: &mut Bytes, row: &Row) -> Result<(), AllocError>
     out.push(b'\n')
 }
 
+fn push_count(out: &mut Bytes, number: u64) -> Result<(), AllocError>
+    ensures { OnOk result (out.new ≡ out.old ++ reply_spelled (Count number)) }
+{
+    push_counted(out, b"ok ", number)?;
+    out.push(b'\n')
+}
+
 fn push_refused(out: &mut Bytes, refusal: &Refusal) -> Result<(), AllocError>
-    ensures { OnOk result (out.new ≡ out.old ++ codes "no " ++ refusal_text refusal.now) }
+    ensures spelled { OnOk result (out.new ≡ out.old ++ reply_spelled (No refusal.now)) }
+    ensures one_line { OnOk result (IsOneLine (reply_spelled (No refusal.now))) }
 {
     out.extend_from_slice(b"no ")?;
-    push_refusal_text(out, refusal)
+    push_refusal_text(out, refusal)?;
+    out.push(b'\n')
 }
 
 /// Adds a reply's line, with its LF. After an `Err` what `out` holds is not to be told.
 pub fn push_reply_text(out: &mut Bytes, reply: &Reply) -> Result<(), AllocError>
-    ensures { OnOk result (out.new ≡ out.old ++ reply_spelled reply.now) }
+    ensures spelled { OnOk result (out.new ≡ out.old ++ reply_spelled reply.now) }
+    ensures one_line { OnOk result (IsOneLine (reply_spelled reply.now)) }
 {
     match reply {
-        Reply::Done => out.extend_from_slice(b"ok")?,
-        Reply::Count(number) => push_counted(out, b"ok ", *number)?,
-        Reply::No(refusal) => push_refused(out, refusal)?,
+        Reply::Done => out.extend_from_slice(b"ok\n"),
+        Reply::Count(number) => push_count(out, *number),
+        Reply::No(refusal) => push_refused(out, refusal),
     }
-    out.push(b'\n')
 }
 
 /// A row's line, with its LF.
@@ -215,7 +233,8 @@ pub fn row_text(alloc: Global, row: &Row) -> Result<Bytes, AllocError>
 
 /// A reply's line, with its LF.
 pub fn reply_text(alloc: Global, reply: &Reply) -> Result<Bytes, AllocError>
-    ensures { IfOk result (λ text. text ≡ reply_spelled reply.now) }
+    ensures spelled { IfOk result (λ text. text ≡ reply_spelled reply.now) }
+    ensures one_line { IfOk result (λ _. IsOneLine (reply_spelled reply.now)) }
 {
     let mut text = Bytes::new(alloc);
     push_reply_text(&mut text, reply)?;
