@@ -74,11 +74,12 @@ insert_at_keeps : (world : World) (name : List ℕ) (rows : List (List Value)) (
 insert_at_keeps world name rows exception None plain = λ _. refl
 insert_at_keeps world name rows exception (Some table) plain = insert_into_keeps world name table table.content rows exception plain
 
--- A create or an insert that is refused leaves a world without plain tables as it was.
+-- A create that is refused leaves the world as it was.
 pub create_kept : (world : World) (name : List ℕ) (d : Definition) (exception : Option Exception)
     → changes (Create name d) (create world name d exception).reply ≡ false → (create world name d exception).world ≡ world
 create_kept world name d exception = create_keeps world name d exception
 
+-- So does an insert, where no table is plain.
 pub insert_kept : (world : World) (name : List ℕ) (rows : List (List Value)) (exception : Option Exception) → HasNoPlain world
     → changes (Insert name rows) (insert world name rows exception).reply ≡ false → (insert world name rows exception).world ≡ world
 insert_kept world name rows exception plain = insert_at_keeps world name rows exception (world name) (plain name)

@@ -2,3 +2,5 @@ pub mod Lines
 pub mod Scripts
 pub mod Clipping
 pub mod OneLine
+pub mod Acknowledged
+pub mod Journal

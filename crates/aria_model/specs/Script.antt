@@ -1,5 +1,5 @@
 -- Whole scripts: their lines and statements, what they leave and what they tell.
-use Rattle.std.specs.Prelude.{ℕ, suc, Bool, false, true, not, ◌&&◌, ◌||◌, ◌==◌, if◌then◌else◌, List, [], ◌∷◌, ◌++◌, take, filter, count_by, Option, None}
+use Rattle.std.specs.Prelude.{◌≡◌, ◌⊎◌, ℕ, suc, Bool, false, true, not, ◌&&◌, ◌||◌, ◌==◌, if◌then◌else◌, List, [], ◌∷◌, ◌++◌, take, filter, count_by, Option, None}
 use Rattle.std.specs.List.{flat_map, list_any}
 use Rattle.aria_model.specs.declared.refusal.Exception.{Exception}
 use Rattle.aria_model.specs.declared.reply.Reply.{Reply}
@@ -71,6 +71,10 @@ is_refused (No why) = true
 -- a reply of the script is a refusal
 abbrev pub any_refused : World → List (List ℕ) → Exceptions → Bool
 any_refused world lines exceptions = list_any (λ outcome. is_refused outcome.reply) (outcomes world (statements lines) exceptions)
+
+-- nothing, or bytes whose last is LF
+abbrev pub EndsLine : List ℕ → Type 0
+EndsLine bytes = (bytes ≡ []) ⊎ ((front : List ℕ) × (bytes ≡ front ++ 10 ∷ []))
 
 -- ok or no
 abbrev pub begins_reply : List ℕ → Bool
