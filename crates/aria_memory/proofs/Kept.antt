@@ -7,18 +7,19 @@ use Rattle.std.specs.Ordering.{nat_cmp}
 use Rattle.aria_value.specs.declared.value.Value.{Value}
 use Rattle.aria_value.specs.declared.definition.Definition.{Definition}
 use Rattle.aria_model.specs.declared.refusal.Refusal.{Refusal}
-use Rattle.aria_model.specs.declared.refusal.Refusal.TheVariants.{NoTable, TableExists, TooManyRows}
+use Rattle.aria_model.specs.declared.refusal.Refusal.TheVariants.{TableExists, TooManyRows}
 use Rattle.aria_model.specs.declared.refusal.Exception.{Exception}
 use Rattle.aria_model.specs.declared.reply.Reply.TheVariants.{Done}
 use Rattle.aria_model.specs.declared.statement.Statement.TheVariants.{Create, Insert}
 use Rattle.aria_model.specs.World as model
 use Rattle.aria_model.specs.World.{World, Content, Sound, Crashed, with_table}
-use Rattle.aria_model.specs.Step.{Outcome, refused, first_of, refused_where, unless, spent, is_taken, create, put_all, inserted, insert_into, insert}
+use Rattle.aria_model.specs.Step.{Outcome, first_of, refused_where, unless, spent, is_taken, create, put_all, inserted, insert_into, insert}
 use Rattle.aria_model.specs.Script.{is_refused}
 use Rattle.aria_model.specs.Journal.{changes}
 use Rattle.aria_memory.specs.declared.tables.Table.{Table}
 use Rattle.aria_memory.specs.declared.tables.Tables.{Tables}
 use Rattle.aria_memory.specs.Worlds.{table_of, world_of}
+use Rattle.aria_memory.proofs.Outcomes.{insert_at}
 
 -- a table is there, and is a plain one
 abbrev pub is_plain : Option model.Table → Bool
@@ -61,13 +62,6 @@ insert_into_keeps world name table (Sound old) rows exception plain =
     let puts = put_all table.definition exception 1 old rows in
     unless_keeps (first_of (refused_where (nat_lt 65536 (length rows)) TooManyRows ∷ cond table.plain None (spent exception) ∷ [])) world
     (inserted world name table (length rows) puts) (inserted_keeps world name table (length rows) puts.rows puts.refusal plain)
-
--- an insert at what a name has
-abbrev insert_at : World → List ℕ → List (List Value) → Option Exception → Option model.Table → Outcome
-insert_at world name rows exception found = elim found [
-  | None ↦ refused world (NoTable name)
-  | Some table ↦ insert_into world name table table.content rows exception
-]
 
 insert_at_keeps : (world : World) (name : List ℕ) (rows : List (List Value)) (exception : Option Exception) (found : Option model.Table) → is_plain found ≡ false
     → Keeps world (insert_at world name rows exception found)

@@ -47,7 +47,7 @@ create-rows world name d exception = no_rows_unless (first_of (refused_where (is
 -- ---- insert
 
 -- an insert at what a name has
-abbrev insert_at : World → List ℕ → List (List Value) → Option Exception → Option Table → Outcome
+abbrev pub insert_at : World → List ℕ → List (List Value) → Option Exception → Option Table → Outcome
 insert_at world name rows exception found = elim found [
   | None ↦ refused world (NoTable name)
   | Some table ↦ insert_into world name table table.content rows exception

@@ -3,7 +3,8 @@
 //!
 //! `specs/Token.antt` and `specs/Grammar.antt` say which statement a line spells, `specs/World.antt` what
 //! tables hold, `specs/Step.antt` what a statement does to them and what it answers, `specs/Text.antt` how
-//! answers are spelled, and `specs/Script.antt` what a whole script leaves and tells.
+//! answers are spelled, `specs/Script.antt` what a whole script leaves and tells, and `specs/Journal.antt`
+//! which lines change the tables.
 #![tactic(auto)]
 
 mod refusal;
