@@ -9,6 +9,7 @@ pub mod Appending
 pub mod Forcing
 pub mod Starting
 pub mod PageReads
+pub mod Places
 pub mod Collecting
 pub mod Opening
 pub mod Found

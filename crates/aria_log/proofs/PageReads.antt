@@ -2,7 +2,7 @@
 use Rattle.std.proofs.Common.{◌≡◌, ◌&&◌, ◌⊎◌, inl, inr, ℕ, zero, suc, ◌+◌, ◌-◌, ◌<◌, ◌≤◌, Bool, true, false, cond, Option, None, Some, List, [], ◌∷◌, ◌++◌, length, take, drop, nat_le, refl, sym, ◌∙◌, ap, subst, arith, ltb}
 use Rattle.std.specs.Prelude.{slice_index, ◌==◌}
 use Rattle.std.proofs.lemmas.Bool.{ltb-false}
-use Rattle.std.proofs.lemmas.List.{length-drop, take_rest, append-nil, append_assoc}
+use Rattle.std.proofs.lemmas.List.{length-append, length-drop, take_rest, take-append-drop, append-nil, append_assoc}
 use Rattle.std.proofs.lemmas.Option.{same_Some}
 use Rattle.aria_page.specs.Number.{number_of, number_at}
 use Rattle.aria_page.specs.Page.{Sums, with_sum, with_bytes, zero_page}
@@ -41,25 +41,30 @@ rest_of_number bytes x e =
     let g = guard_some (ltb (length bytes) 4) (Some (number_of 4 bytes, drop 4 bytes)) x e in
     (ltb-false _ _ g.0, sym (ap (λ (p : ℕ × List ℕ). p.1) (same_Some (number_of 4 bytes, drop 4 bytes) x g.1)))
 
-rest_of_bytes : (n : ℕ) (bytes : List ℕ) (x : List ℕ × List ℕ) → bytes_at n bytes ≡ Some x → x.1 ≡ drop n bytes
+sizes_of_bytes : (n : ℕ) (bytes : List ℕ) (x : List ℕ × List ℕ) → bytes_at n bytes ≡ Some x → length bytes ≡ length x.0 + length x.1
 unfolding bytes_at
-rest_of_bytes n bytes x e =
+sizes_of_bytes n bytes x e =
     let g = guard_some (ltb (length bytes) n) (Some (take n bytes, drop n bytes)) x e in
-    sym (ap (λ (p : List ℕ × List ℕ). p.1) (same_Some (take n bytes, drop n bytes) x g.1))
+    let same : take n bytes ++ drop n bytes ≡ x.0 ++ x.1 = ap (λ (p : List ℕ × List ℕ). p.0 ++ p.1) (same_Some (take n bytes, drop n bytes) x g.1) in
+    ap length (sym (take-append-drop n bytes) ∙ same) ∙ length-append x.0 x.1
 
 -- a choice that gave something
 chosen : (b : Bool) (o : Option (List ℕ × List ℕ)) (x : List ℕ × List ℕ) → cond b o None ≡ Some x → o ≡ Some x
 chosen true o x e = e
 chosen false o x e = absurd (cc)
 
--- behind a frame stand fewer bytes
-pub frame_shorter : (bytes : List ℕ) (x : List ℕ × List ℕ) → frame_at bytes ≡ Some x → length x.1 < length bytes
+-- a frame takes 4 bytes and its own
+pub frame_size : (bytes : List ℕ) (x : List ℕ × List ℕ) → frame_at bytes ≡ Some x → length bytes ≡ 4 + length x.0 + length x.1
 unfolding frame_at
-frame_shorter bytes x e =
+frame_size bytes x e =
     let (len, first, second) = bind_some (number_at 4 bytes) (λ (len : ℕ × List ℕ). cond (nat_le 1 len.0 && nat_le len.0 1048576) (bytes_at len.0 len.1) None) x e in
     let rest = rest_of_number bytes len first in
-    let last = rest_of_bytes len.0 len.1 x (chosen (nat_le 1 len.0 && nat_le len.0 1048576) (bytes_at len.0 len.1) x second) in
-    omega (arith, rest.0, ap length rest.1, ap length last, length-drop len.0 len.1, length-drop 4 bytes)
+    let sizes = sizes_of_bytes len.0 len.1 x (chosen (nat_le 1 len.0 && nat_le len.0 1048576) (bytes_at len.0 len.1) x second) in
+    omega (arith, rest.0, ap length rest.1, sizes, length-drop 4 bytes)
+
+-- behind a frame stand fewer bytes
+pub frame_shorter : (bytes : List ℕ) (x : List ℕ × List ℕ) → frame_at bytes ≡ Some x → length x.1 < length bytes
+frame_shorter bytes x e = omega (arith, frame_size bytes x e)
 
 -- more steps than there are bytes find no more frames
 steps_enough : (n m : ℕ) (bytes : List ℕ) (o : Option (List ℕ × List ℕ)) → frame_at bytes ≡ o → length bytes ≤ n → length bytes ≤ m → frames_within n bytes ≡ frames_within m bytes

@@ -18,5 +18,5 @@ mod scan;
 mod start;
 
 pub use log::Log;
-pub use opened::Opened;
+pub use opened::{Frame, Opened};
 pub use scan::open;

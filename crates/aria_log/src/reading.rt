@@ -1,12 +1,14 @@
 //! Reads the pages of the log and the frames in them.
 
-ghost use Rattle.std.specs.Prelude.{◌≡◌, ◌≤◌, ◌<◌, ◌++◌, ◌↔◌, ◌&&◌, if◌then◌else◌, nat_le, None, length, IsTrue, OnOk, IfSome, List, ℕ};
+ghost use Rattle.std.specs.Prelude.{◌≡◌, ◌≤◌, ◌<◌, ◌+◌, ◌*◌, ◌/◌, ◌^◌, ◌++◌, ◌↔◌, ◌&&◌, if◌then◌else◌, nat_le, None, length, map, IsTrue, OnOk, IfSome, List, ℕ};
 ghost use Rattle.aria_page.specs.Field.{Gives};
 ghost use Rattle.aria_page.specs.Text.{bytes_at};
 ghost use Rattle.aria_log.specs.Frames.{frame_at, frames_in};
 ghost use Rattle.aria_log.specs.LogPage.{IsLogPage, read_log_page};
+ghost use Rattle.aria_log.specs.Places.{EndsBefore, pages_from};
 
 use crate::log_page::{BODY_AT, BODY_BYTES, seal};
+use crate::opened::Frame;
 use aria_page::{Bytes, List, Page, bytes_at, u16_of, u32_at};
 use std::alloc::{AllocError, Global};
 
@@ -33,7 +35,8 @@ fn is_page_of(page: &Page, number: u32, begins: bool, bytes: &[u8]) -> bool
 
 /// Whether a valid page of this number begins a run, and its used bytes; `None` where it isn't valid.
 pub(crate) fn read_page_of(number: u32, page: &Page) -> Option<(bool, &[u8])>
-    ensures { Gives (λ x. (x.0, x.1.now)) result (read_log_page number page.now) }
+    ensures read { Gives (λ x. (x.0, x.1.now)) result (read_log_page number page.now) }
+    ensures fits { IfSome result (λ x. length x.1.now ≤ 8176) }
 {
     let bytes = page.bytes();
     let used = u16_of(&bytes[14..]) as usize;
@@ -67,17 +70,31 @@ fn frame_at(bytes: &[u8]) -> Option<(&[u8], &[u8])>
     frame_of(len, rest)
 }
 
-/// Adds all whole frames in front of these bytes.
+// The page of this byte of a run whose first page has that number.
+fn page_of(first: u32, byte: usize) -> u32
+    requires within { 8176 * first + byte < 8176 * 2 ^ 32 }
+    ensures { result ≡ first + byte / 8176 }
+{
+    first + (byte / BODY_BYTES) as u32
+}
+
+/// Adds all whole frames in front of these bytes of a run, with the pages in which they begin. The run's first page has
+/// number `first`.
 pub(crate) fn push_frames(
     alloc: Global,
-    frames: &mut List<Bytes>,
+    frames: &mut List<Frame>,
+    first: u32,
     bytes: &[u8],
 ) -> Result<(), AllocError>
-    ensures { OnOk result (frames.new ≡ frames.old ++ frames_in bytes.now) }
+    requires within { EndsBefore first bytes.now (2 ^ 32) }
+    ensures frames { OnOk result (map (λ f. f.bytes) frames.new ≡ map (λ f. f.bytes) frames.old ++ frames_in bytes.now) }
+    ensures starts { OnOk result (map (λ f. f.page) frames.new ≡ map (λ f. f.page) frames.old ++ pages_from first 0 (frames_in bytes.now)) }
 {
     let mut rest = bytes;
     while let Some((frame, behind)) = frame_at(rest) {
-        frames.push(Bytes::from_slice(alloc, frame)?)?;
+        let page = page_of(first, bytes.len() - rest.len());
+        let frame = Bytes::from_slice(alloc, frame)?;
+        frames.push(Frame { bytes: frame, page })?;
         rest = behind;
     }
     Ok(())

@@ -1,11 +1,12 @@
 //! Opens the log: finds its end, and reads its frames.
 
-ghost use Rattle.std.specs.Prelude.{◌≡◌, ◌≤◌, ◌+◌, ◌++◌, [], length, drop, false, IfOk, IfErr, IsTrue};
+ghost use Rattle.std.specs.Prelude.{◌≡◌, ◌≤◌, ◌+◌, ◌*◌, ◌^◌, ◌++◌, [], length, map, drop, false, IfOk, IfErr, OnOk, IsTrue};
 ghost use Rattle.std.specs.Option.{option_map_or};
 ghost use Rattle.aria_log.specs.LogPage.{read_log_page};
 ghost use Rattle.aria_host.specs.Calls.{HasDiskCause, HasDiskOrMemoryCause, Unchanged};
 ghost use Rattle.aria_log.specs.Frames.{frames_in};
 ghost use Rattle.aria_log.specs.Front.{begins_behind, end_of};
+ghost use Rattle.aria_log.specs.Places.{EndsBefore, frame_pages_of, pages_from};
 ghost use Rattle.aria_log.specs.Log.{log_pages, log_of};
 ghost use Rattle.aria_log.specs.Opened.{Finds};
 
@@ -27,10 +28,13 @@ fn read_front<H: Host>(
 ) -> Result<u32, Fault>
     requires pages { IsTrue H.tells → pages ≡ length (log_pages (H.state host.old).folder) }
     requires frames { reader.old.frames ≡ [] }
+    requires first { reader.old.first ≡ 0 }
     requires run { reader.old.run ≡ [] }
     requires full { reader.old.full ≡ false }
     ensures end { IsTrue H.tells → IfOk result (λ number. number ≡ end_of (log_pages (H.state host.old).folder)) }
-    ensures frames { IsTrue H.tells → IfOk result (λ _. log_of (H.state host.old).folder ≡ reader.new.frames ++ frames_in reader.new.run) }
+    ensures frames { IsTrue H.tells → IfOk result (λ _. log_of (H.state host.old).folder ≡ map (λ f. f.bytes) reader.new.frames ++ frames_in reader.new.run) }
+    ensures starts { IsTrue H.tells → IfOk result (λ _. frame_pages_of (log_pages (H.state host.old).folder) ≡ map (λ f. f.page) reader.new.frames ++ pages_from reader.new.first 0 (frames_in reader.new.run)) }
+    ensures before { OnOk result (EndsBefore reader.new.first reader.new.run (2 ^ 32)) }
     ensures within { IfOk result (λ number. number ≤ pages) }
     ensures same { IsTrue H.tells → Unchanged (H.state host.old) (H.state host.new) }
     ensures cause { HasDiskOrMemoryCause (H.state host.old) (H.state host.new) result }

@@ -5,11 +5,11 @@ use Rattle.aria_log.proofs.Appending.{not_done}
 use Rattle.aria_log.proofs.reading.read_page_of.Goals as goal
 use Rattle.aria_log.proofs.reading.read_page_of.Goals.{then-used-ge1+then-used-le-BODY_BYTES+else-is_page_of, else-used-ge1, else-used-ge1-via-then-used-ge1+else-used-le-BODY_BYTES, else-used-ge1-via-else-used-ge1}
 
-pub returns-then-is_page_of : goal.returns-then-is_page_of
-returns-then-is_page_of c = valid_reads c.args.number _ _ c.args.page.now (c.is_page_of.ensures.0 c.if-is_page_of.true)
+pub returns-then-is_page_of-clause-read : goal.returns-then-is_page_of-clause-read
+returns-then-is_page_of-clause-read c = valid_reads c.args.number _ _ c.args.page.now (c.is_page_of.ensures.0 c.if-is_page_of.true)
 
-pub returns : goal.returns
-returns c = elim c.if-used-ge1.branch [
+pub returns-clause-read : goal.returns-clause-read
+returns-clause-read c = elim c.if-used-ge1.branch [
   | then-used-ge1+then-used-le-BODY_BYTES+else-is_page_of w ↦
       fields_other c.args.number c.args.page.now _ _ (begins_is c.bytes-bytes.result.now c.args.page.now c.bytes-bytes.ensures.value)
       (used_is c.bytes-bytes.result.now c.args.page.now _ c.u16_of-used.result c.bytes-bytes.ensures.value c.u16_of-used.ensures refl)

@@ -1,6 +1,7 @@
 use Rattle.std.proofs.Common.{◌≡◌, ◌∙◌, sym, ap, drop}
 use Rattle.aria_host.specs.Folder.{Folder}
 use Rattle.aria_log.specs.Front.{begins_behind, end_of}
+use Rattle.aria_log.specs.Places.{frame_pages_of}
 use Rattle.aria_log.specs.Log.{log_pages, log_of}
 use Rattle.aria_log.proofs.Found.{found_sound, found_damaged}
 use Rattle.aria_log.proofs.scan.open.Goals as goal
@@ -22,5 +23,6 @@ returns-clause-found g c = λ told.
     let at : c.in_ok-number.number ≡ end_of (log_pages folder) = c.in_ok-number.ensures.end told ∙ ap (λ (f : Folder). end_of (log_pages f)) first in
     let is = c.in_ok-begins_from.ensures.found told ∙ ap (λ (f : Folder). begins_behind c.in_ok-number.number (drop c.in_ok-number.number (log_pages f))) (second ∙ first) in (
       found_sound c.at.result folder c.in_ok-number.number c.in_ok-begins_from.field-0 at is c.if-branch.false c.at.ensures,
-      c.in_ok-frames.ensures ∙ sym (c.in_ok-number.ensures.frames told) ∙ ap log_of first,
+      c.in_ok-frames.ensures.frames ∙ sym (c.in_ok-number.ensures.frames told) ∙ ap log_of first,
+      c.in_ok-frames.ensures.starts ∙ sym (c.in_ok-number.ensures.starts told) ∙ ap (λ (f : Folder). frame_pages_of (log_pages f)) first,
     )
