@@ -1,0 +1,4 @@
+pub mod Running
+pub mod Tallying
+pub mod Leaving
+pub mod Doing

@@ -6,7 +6,8 @@ use Rattle.aria_host.specs.Count.{Rose}
 use Rattle.aria_host.specs.State.{Folder, State}
 use Rattle.aria_log.specs.Log.{IsLog}
 use Rattle.aria_model.specs.World.{World, empty_world}
-use Rattle.aria_model.specs.Script.{Exceptions, no_exception, world_after}
+use Rattle.aria_model.specs.declared.refusal.Exception.{Exception}
+use Rattle.aria_model.specs.Script.{no_exception, world_after}
 use Rattle.aria_model.specs.Journal.{first_no_change, met_at}
 use Rattle.aria_memory.specs.Worlds.{world_of}
 use Rattle.aria_engine.specs.declared.store.Store.{Store}

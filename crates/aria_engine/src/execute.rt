@@ -22,7 +22,7 @@ impl Store {
         ensures blank { IfOk result (λ outcome. was_blank outcome ≡ is_blank_line line.now) }
         ensures refused { IfOk result (λ outcome. was_refused outcome ≡ true → tables_of self.new ≡ tables_of self.old) }
         ensures running { OnOk result (IsTrue H.tells → IsRunning self.new (H.state host.new)) }
-        ensures part { OnErr result (DoesPart H.tells (line.now ∷ []) self.old self.new (H.state host.old) (H.state host.new)) }
+        ensures part { self.old.kept ≡ None → OnErr result (DoesPart H.tells (line.now ∷ []) self.old self.new (H.state host.old) (H.state host.new)) }
         ensures cause { self.old.kept ≡ None → IfErr result (λ fault. HasCause fault (H.state host.old) (H.state host.new)) }
         ensures fresh { OnOk result (self.new.kept ≡ None) }
         ensures keeps { IfErr result (λ fault. self.new.kept ≡ Some fault) }
@@ -34,6 +34,10 @@ impl Store {
         let _ = alloc;
         let _ = host;
         let _ = line;
+        if let Some(fault) = self.kept {
+            return Err(fault);
+        }
+        self.kept = Some(Fault::Memory(AllocError));
         Err(Fault::Memory(AllocError))
     }
 

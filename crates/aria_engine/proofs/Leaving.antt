@@ -1,0 +1,81 @@
+-- What a crash leaves of lines that are done one after another.
+use Rattle.std.proofs.Common.{◌≡◌, ℕ, ◌+◌, ◌≤◌, min, List, [], ◌++◌, length, take, refl, sym, ap, subst, ◌∙◌, arith}
+use Rattle.std.proofs.lemmas.List.{append-nil, append_assoc, take-append-le, take_min}
+use Rattle.std.proofs.Math.Seq.{take-append-add}
+use Rattle.aria_host.specs.State.{Folder}
+use Rattle.aria_model.specs.World.{World}
+use Rattle.aria_model.specs.Script.{Exceptions, statements, world_after, after, told, acknowledged}
+use Rattle.aria_model.proofs.Scripts.{from_nth, statements-append, told-append, world_after-append}
+use Rattle.aria_model.proofs.Acknowledged.{acknowledged-append, told_ends}
+use Rattle.aria_engine.specs.Holds.{Holds}
+use Rattle.aria_engine.specs.Done.{Leaves}
+use Rattle.aria_engine.proofs.Tallying.{length-statements}
+
+-- a part of what lines tell is a part of what they and others tell
+pub told_front : (w : World) (a b : List (List ℕ)) (xs : Exceptions) (n : ℕ) → take n (told w a xs) ≡ take (min n (length (told w a xs))) (told w (a ++ b) xs)
+told_front w a b xs n =
+    let all = told w a xs in
+    let low : min n (length all) ≤ length all = omega arith in
+    sym (take_min n all) ∙ sym (take-append-le (min n (length all)) all _ low) ∙ ap (take (min n (length all))) (sym (told-append w a b xs))
+
+-- and behind all that lines tell comes a part of what the others tell
+pub told_behind : (w w1 : World) (a b : List (List ℕ)) (xs : Exceptions) (n : ℕ) → w1 ≡ world_after w (statements a) xs
+    → told w a xs ++ take n (told w1 b (from_nth xs (length (statements a)))) ≡ take (length (told w a xs) + n) (told w (a ++ b) xs)
+told_behind w w1 a b xs n is =
+    ap (λ (v : World). told w a xs ++ take n (told v b (from_nth xs (length (statements a))))) is
+    ∙ sym (take-append-add (told w a xs) (told (world_after w (statements a) xs) b (from_nth xs (length (statements a)))) n)
+    ∙ ap (take (length (told w a xs) + n)) (sym (told-append w a b xs))
+
+after_front : (w : World) (a b : List (List ℕ)) (xs : Exceptions) (n : ℕ) → n ≤ length (statements a) → after w a xs n ≡ after w (a ++ b) xs n
+after_front w a b xs n low =
+    ap (λ (ls : List (List ℕ)). world_after w ls xs) (sym (take-append-le n (statements a) (statements b) low) ∙ ap (take n) (sym (statements-append a b)))
+
+after_behind : (w w1 : World) (a b : List (List ℕ)) (xs : Exceptions) (n : ℕ) → w1 ≡ world_after w (statements a) xs
+    → after w1 b (from_nth xs (length (statements a))) n ≡ after w (a ++ b) xs (length (statements a) + n)
+after_behind w w1 a b xs n is =
+    ap (λ (v : World). after v b (from_nth xs (length (statements a))) n) is
+    ∙ sym (world_after-append w (statements a) (take n (statements b)) xs)
+    ∙ ap (λ (ls : List (List ℕ)). world_after w ls xs) (sym (take-append-add (statements a) (statements b) n) ∙ ap (take (length (statements a) + n)) (sym (statements-append a b)))
+
+-- what a crash leaves of lines, it leaves of them and others
+pub leaves_front : (w : World) (a b : List (List ℕ)) (xs : Exceptions) (out : List ℕ) (c : Folder) (told_by : List ℕ) → Leaves w a xs out c told_by → Leaves w (a ++ b) xs out c told_by
+leaves_front w a b xs out c told_by leaves =
+    let same = told_front w a b xs leaves.part in
+    record {
+      count = leaves.count;
+      within = omega (arith, leaves.within, length-statements a b);
+      part = min leaves.part (length (told w a xs));
+      told_is = leaves.told_is ∙ ap (λ (t : List ℕ). out ++ t) same;
+      acked = subst (λ (t : List ℕ). acknowledged t ≤ leaves.count) same leaves.acked;
+      holds = subst (λ (v : World). Holds c v) (after_front w a b xs leaves.count leaves.within) leaves.holds;
+    }
+
+-- and what it leaves of the others, behind lines that are done
+pub leaves_behind : (w w1 : World) (a b : List (List ℕ)) (xs : Exceptions) (out out1 : List ℕ) (c : Folder) (told_by : List ℕ)
+    → w1 ≡ world_after w (statements a) xs → out1 ≡ out ++ told w a xs → acknowledged (told w a xs) ≤ length (statements a)
+    → Leaves w1 b (from_nth xs (length (statements a))) out1 c told_by → Leaves w (a ++ b) xs out c told_by
+leaves_behind w w1 a b xs out out1 c told_by world_is out_is acked leaves =
+    let later = from_nth xs (length (statements a)) in
+    let part = take leaves.part (told w1 b later) in
+    let same = told_behind w w1 a b xs leaves.part world_is in
+    let sum : acknowledged (told w a xs ++ part) ≡ acknowledged (told w a xs) + acknowledged part = acknowledged-append (told w a xs) part (told_ends w a xs) in
+    let few : acknowledged (told w a xs ++ part) ≤ length (statements a) + leaves.count = omega (arith, sum, acked, leaves.acked) in
+    record {
+      count = length (statements a) + leaves.count;
+      within = omega (arith, leaves.within, length-statements a b);
+      part = length (told w a xs) + leaves.part;
+      told_is = leaves.told_is ∙ ap (λ (t : List ℕ). t ++ part) out_is ∙ append_assoc out (told w a xs) part ∙ ap (λ (t : List ℕ). out ++ t) same;
+      acked = subst (λ (t : List ℕ). acknowledged t ≤ length (statements a) + leaves.count) same few;
+      holds = subst (λ (v : World). Holds c v) (after_behind w w1 a b xs leaves.count world_is) leaves.holds;
+    }
+
+-- nothing is done and nothing told
+pub leaves_none : (w : World) (lines : List (List ℕ)) (xs : Exceptions) (out : List ℕ) (c : Folder) (told_by : List ℕ) → told_by ≡ out → Holds c w → Leaves w lines xs out c told_by
+leaves_none w lines xs out c told_by is holds = record {
+  count = 0;
+  within = omega arith;
+  part = 0;
+  told_is = is ∙ sym (append-nil out);
+  acked = omega arith;
+  holds = holds;
+}
