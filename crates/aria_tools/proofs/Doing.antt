@@ -1,73 +1,24 @@
--- Lines that are done one after another.
-use Rattle.std.proofs.Common.{◌≡◌, ℕ, ◌+◌, ◌≤◌, Bool, false, ◌||◌, List, [], ◌∷◌, ◌++◌, length, take, min, true, cond, Option, None, Result, refl, sym, ap, ◌∙◌, arith}
-use Rattle.std.proofs.lemmas.List.{append-nil, append_assoc, take-append-le, take_min}
-use Rattle.std.proofs.Math.Seq.{take-append-add, take-length}
-use Rattle.std.proofs.Math.Bool.{or_assoc, or-false}
+-- A line that is clipped, and whether a statement was refused.
+use Rattle.std.proofs.Common.{◌≡◌, ℕ, zero, suc, ◌+◌, ◌-◌, ◌/◌, ◌≤◌, Bool, false, ◌||◌, List, [], ◌∷◌, ◌++◌, length, take, true, cond, Option, Result, refl, sym, ap, subst, ◌∙◌, arith}
 use Rattle.std.specs.Prelude.{not}
 use Rattle.std.specs.List.{flat_map, list_any}
-use Rattle.aria_host.specs.State.{State}
+use Rattle.aria_host.specs.State.{Folder, State, LeavesOnly}
+use Rattle.aria_host.proofs.Moments.{weakened}
 use Rattle.aria_model.specs.World.{World}
-use Rattle.aria_model.specs.Script.{statements, world_after, outcomes, told, any_refused, no_exception, is_refused, outcome_text}
-use Rattle.aria_tools.specs.Turns.{Does, TellsPart}
+use Rattle.std.proofs.lemmas.List.{length-take}
+use Rattle.std.proofs.lemmas.List.Elements.{All-weaker}
+use Rattle.aria_engine.specs.Holds.{Holds}
+use Rattle.aria_model.specs.Script.{Exceptions, statements, after, world_after, outcomes, told, acknowledged, is_refused, outcome_text}
+use Rattle.aria_model.specs.declared.refusal.Exception.{Exception}
 use Rattle.aria_model.specs.Grammar.{read_line, is_blank_line}
 use Rattle.aria_model.specs.Step.{Outcome, answered, built_reply, step}
 use Rattle.aria_model.specs.declared.statement.Statement.{Statement}
 use Rattle.aria_model.specs.declared.refusal.Refusal.{Refusal}
+use Rattle.aria_engine.specs.declared.store.Store.{Store}
+use Rattle.aria_engine.specs.Store.{tables_of, count_of, pages_of}
+use Rattle.aria_engine.specs.Done.{Leaves, Done, DonePart, Does, DoesPart, Counts, IsFull, growth}
 use Rattle.aria_tools.specs.Held.{clipped}
-use Rattle.aria_model.proofs.Scripts.{told-append, any_refused-append, left_by-append}
 use Rattle.aria_tools.proofs.Splitting.{read_line-clipped, is_blank_line-clipped}
-
-pub does_nothing : (tells : Bool) (w : World) (was : Bool) (s : State) → Does tells [] w w was was s s
-does_nothing tells w was s = record { world = refl; refused = sym (or-false was); out = λ h. sym (append-nil s.out); err = λ h. refl }
-
-pub does_more : (tells : Bool) (a b : List (List ℕ)) (w0 w1 w2 : World) (r0 r1 r2 : Bool) (s0 s1 s2 : State)
-    → Does tells a w0 w1 r0 r1 s0 s1 → Does tells b w1 w2 r1 r2 s1 s2 → Does tells (a ++ b) w0 w2 r0 r2 s0 s2
-does_more tells a b w0 w1 w2 r0 r1 r2 s0 s1 s2 first then = record {
-  world = then.world ∙ ap (λ (w : World). world_after w (statements b) no_exception) first.world ∙ sym (left_by-append w0 a b no_exception);
-  refused = then.refused ∙ ap (λ (r : Bool). r || any_refused w1 b no_exception) first.refused
-      ∙ ap (λ (w : World). (r0 || any_refused w0 a no_exception) || any_refused w b no_exception) first.world
-      ∙ or_assoc r0 _ _ ∙ ap (λ (r : Bool). r0 || r) (sym (any_refused-append w0 a b no_exception));
-  out = λ h. then.out h ∙ ap (λ (o : List ℕ). o ++ told w1 b no_exception) (first.out h)
-      ∙ ap (λ (w : World). (s0.out ++ told w0 a no_exception) ++ told w b no_exception) first.world
-      ∙ append_assoc s0.out _ _ ∙ ap (λ (o : List ℕ). s0.out ++ o) (sym (told-append w0 a b no_exception));
-  err = λ h. then.err h ∙ first.err h;
-}
-
--- what was told goes on to be a front
-pub tells_part_more : (tells : Bool) (a b : List (List ℕ)) (w : World) (s0 s1 : State) → TellsPart tells a w s0 s1 → TellsPart tells (a ++ b) w s0 s1
-tells_part_more tells a b w s0 s1 part = record {
-  out = λ h. let n = (part.out h).0 in let all = told w a no_exception in let low : min n (length all) ≤ length all = omega arith in (
-    min n (length all),
-    (part.out h).1 ∙ ap (λ (o : List ℕ). s0.out ++ o) (sym (take_min n all) ∙ sym (take-append-le (min n (length all)) all _ low)
-        ∙ ap (take (min n (length all))) (sym (told-append w a b no_exception))),
-  );
-  err = part.err;
-}
-
-pub does_then_part : (tells : Bool) (a b : List (List ℕ)) (w0 w1 : World) (r0 r1 : Bool) (s0 s1 s2 : State)
-    → Does tells a w0 w1 r0 r1 s0 s1 → TellsPart tells b w1 s1 s2 → TellsPart tells (a ++ b) w0 s0 s2
-does_then_part tells a b w0 w1 r0 r1 s0 s1 s2 first part = record {
-  out = λ h. let n = (part.out h).0 in let all = told w0 a no_exception in (
-    length all + n,
-    (part.out h).1 ∙ ap (λ (o : List ℕ). o ++ take n (told w1 b no_exception)) (first.out h)
-        ∙ ap (λ (w : World). (s0.out ++ all) ++ take n (told w b no_exception)) first.world
-        ∙ append_assoc s0.out _ _
-        ∙ ap (λ (o : List ℕ). s0.out ++ o) (sym (take-append-add all (told (world_after w0 (statements a) no_exception) b no_exception) n)
-        ∙ ap (take (length all + n)) (sym (told-append w0 a b no_exception))),
-  );
-  err = λ h. part.err h ∙ first.err h;
-}
-
--- all of it is a front
-pub does_part : (tells : Bool) (a : List (List ℕ)) (w0 w1 : World) (r0 r1 : Bool) (s0 s1 : State) → Does tells a w0 w1 r0 r1 s0 s1 → TellsPart tells a w0 s0 s1
-does_part tells a w0 w1 r0 r1 s0 s1 does = record {
-  out = λ h. (length (told w0 a no_exception), does.out h ∙ ap (λ (o : List ℕ). s0.out ++ o) (sym (take-length (told w0 a no_exception))));
-  err = does.err;
-}
-
--- nothing was told
-pub tells_nothing : (tells : Bool) (a : List (List ℕ)) (w : World) (s : State) → TellsPart tells a w s s
-tells_nothing tells a w s = record { out = λ h. (0, sym (append-nil s.out)); err = λ h. refl }
 
 -- what outcomes tell, and whether one is a refusal
 abbrev text_of : List Outcome → List ℕ
@@ -83,45 +34,174 @@ one_outcome blank o = cond (not blank) (o ∷ []) []
 abbrev one_world : Bool → World → World → World
 one_world blank old new = cond (not blank) new old
 
-outcomes_one : (w : World) (line : List ℕ) (blank : Bool) → outcomes w (cond (not blank) (line ∷ []) []) no_exception ≡ one_outcome blank (step w line None)
-outcomes_one w line true = refl
-outcomes_one w line false = refl
+outcomes_one : (w : World) (line : List ℕ) (blank : Bool) (xs : Exceptions) → outcomes w (cond (not blank) (line ∷ []) []) xs ≡ one_outcome blank (step w line (xs 0))
+outcomes_one w line true xs = refl
+outcomes_one w line false xs = refl
 
-world_one : (w : World) (line : List ℕ) (blank : Bool) → world_after w (cond (not blank) (line ∷ []) []) no_exception ≡ one_world blank w (step w line None).world
-world_one w line true = refl
-world_one w line false = refl
+world_one : (w : World) (line : List ℕ) (blank : Bool) (xs : Exceptions) → world_after w (cond (not blank) (line ∷ []) []) xs ≡ one_world blank w (step w line (xs 0)).world
+world_one w line true xs = refl
+world_one w line false xs = refl
 
 -- what is read of a line decides what it does
-abbrev stepped : World → Result (Option Statement) Refusal → Outcome
-stepped w read = let outcome = answered w read None in record outcome { reply = built_reply outcome.reply }
+abbrev stepped : World → Result (Option Statement) Refusal → Option Exception → Outcome
+stepped w read x = let outcome = answered w read x in record outcome { reply = built_reply outcome.reply }
 
-outcomes_same : (w : World) (a b : List ℕ) → is_blank_line a ≡ is_blank_line b → read_line a ≡ read_line b
-    → outcomes w (statements (a ∷ [])) no_exception ≡ outcomes w (statements (b ∷ [])) no_exception
-outcomes_same w a b blank read = outcomes_one w a (is_blank_line a) ∙ ap (λ (x : Bool). one_outcome x (step w a None)) blank
-    ∙ ap (λ (r : Result (Option Statement) Refusal). one_outcome (is_blank_line b) (stepped w r)) read ∙ sym (outcomes_one w b (is_blank_line b))
+outcomes_same : (w : World) (a b : List ℕ) (xs : Exceptions) → is_blank_line a ≡ is_blank_line b → read_line a ≡ read_line b
+    → outcomes w (statements (a ∷ [])) xs ≡ outcomes w (statements (b ∷ [])) xs
+outcomes_same w a b xs blank read = outcomes_one w a (is_blank_line a) xs ∙ ap (λ (x : Bool). one_outcome x (step w a (xs 0))) blank
+    ∙ ap (λ (r : Result (Option Statement) Refusal). one_outcome (is_blank_line b) (stepped w r (xs 0))) read ∙ sym (outcomes_one w b (is_blank_line b) xs)
 
-world_same : (w : World) (a b : List ℕ) → is_blank_line a ≡ is_blank_line b → read_line a ≡ read_line b
-    → world_after w (statements (a ∷ [])) no_exception ≡ world_after w (statements (b ∷ [])) no_exception
-world_same w a b blank read = world_one w a (is_blank_line a) ∙ ap (λ (x : Bool). one_world x w (step w a None).world) blank
-    ∙ ap (λ (r : Result (Option Statement) Refusal). one_world (is_blank_line b) w (stepped w r).world) read ∙ sym (world_one w b (is_blank_line b))
+world_same : (w : World) (a b : List ℕ) (xs : Exceptions) → is_blank_line a ≡ is_blank_line b → read_line a ≡ read_line b
+    → world_after w (statements (a ∷ [])) xs ≡ world_after w (statements (b ∷ [])) xs
+world_same w a b xs blank read = world_one w a (is_blank_line a) xs ∙ ap (λ (x : Bool). one_world x w (step w a (xs 0)).world) blank
+    ∙ ap (λ (r : Result (Option Statement) Refusal). one_world (is_blank_line b) w (stepped w r (xs 0)).world) read ∙ sym (world_one w b (is_blank_line b) xs)
+
+length_one : (line : List ℕ) (blank : Bool) → length (cond (not blank) (line ∷ []) []) ≡ cond blank 0 1
+length_one line true = refl
+length_one line false = refl
+
+-- clipped or not, the line is one statement or none
+length_same : (line : List ℕ) → length (statements (clipped line ∷ [])) ≡ length (statements (line ∷ []))
+length_same line = length_one (clipped line) (is_blank_line (clipped line)) ∙ ap (λ (b : Bool). cond b 0 1) (is_blank_line-clipped line) ∙ sym (length_one line (is_blank_line line))
+
+-- the world after so many of the statements that one line is
+abbrev world_part : ℕ → Bool → World → World → World
+world_part n true old new = old
+world_part zero false old new = old
+world_part (suc n) false old new = new
+
+after_one : (w : World) (line : List ℕ) (xs : Exceptions) (blank : Bool) (n : ℕ) → world_after w (take n (cond (not blank) (line ∷ []) [])) xs ≡ world_part n blank w (step w line (xs 0)).world
+after_one w line xs true zero = refl
+after_one w line xs true (suc n) = refl
+after_one w line xs false zero = refl
+after_one w line xs false (suc zero) = refl
+after_one w line xs false (suc (suc n)) = refl
+
+after_same : (w : World) (line : List ℕ) (xs : Exceptions) (n : ℕ) → after w (clipped line ∷ []) xs n ≡ after w (line ∷ []) xs n
+after_same w line xs n = after_one w (clipped line) xs (is_blank_line (clipped line)) n
+    ∙ ap (λ (x : Bool). world_part n x w (step w (clipped line) (xs 0)).world) (is_blank_line-clipped line)
+    ∙ ap (λ (r : Result (Option Statement) Refusal). world_part n (is_blank_line line) w (stepped w r (xs 0)).world) (read_line-clipped line)
+    ∙ sym (after_one w line xs (is_blank_line line) n)
+
+-- what a crash leaves of a clipped line, it leaves of the line
+leaves_clipped : (w : World) (line : List ℕ) (xs : Exceptions) (out : List ℕ) (c : Folder) (t : List ℕ) → Leaves w (clipped line ∷ []) xs out c t → Leaves w (line ∷ []) xs out c t
+leaves_clipped w line xs out c t leaves =
+    let outs = outcomes_same w (clipped line) line xs (is_blank_line-clipped line) (read_line-clipped line) in
+    record {
+      count = leaves.count;
+      within = subst (λ (n : ℕ). leaves.count ≤ n) (length_same line) leaves.within;
+      part = leaves.part;
+      told_is = leaves.told_is ∙ ap (λ (os : List Outcome). out ++ take leaves.part (text_of os)) outs;
+      acked = subst (λ (os : List Outcome). acknowledged (take leaves.part (text_of os)) ≤ leaves.count) outs leaves.acked;
+      holds = subst (λ (v : World). Holds c v) (after_same w line xs leaves.count) leaves.holds;
+    }
+
+-- how much so many of the statements that one line is may add
+abbrev growth_part : ℕ → Bool → ℕ → ℕ
+growth_part n true size = 0
+growth_part zero false size = 0
+growth_part (suc n) false size = size / 8176 + 2
+
+growth_one : (line : List ℕ) (blank : Bool) (n : ℕ) → growth (take n (cond (not blank) (line ∷ []) [])) ≡ growth_part n blank (length line)
+growth_one line true zero = refl
+growth_one line true (suc n) = refl
+growth_one line false zero = refl
+growth_one line false (suc zero) = omega arith
+growth_one line false (suc (suc n)) = omega arith
+
+growth_more : (n : ℕ) (blank : Bool) (a b : ℕ) → a ≤ b → growth_part n blank a ≤ growth_part n blank b
+growth_more n true a b low = omega arith
+growth_more zero false a b low = omega arith
+growth_more (suc n) false a b low = omega arith
+
+growth_clipped : (line : List ℕ) (n : ℕ) → growth (take n (statements (clipped line ∷ []))) ≤ growth (take n (statements (line ∷ [])))
+growth_clipped line n =
+    let low : length (clipped line) ≤ length line = low_of 1048577 line in
+    let le = growth_more n (is_blank_line line) (length (clipped line)) (length line) low in
+    let front : growth (take n (statements (clipped line ∷ []))) ≡ growth_part n (is_blank_line line) (length (clipped line)) =
+    growth_one (clipped line) (is_blank_line (clipped line)) n ∙ ap (λ (x : Bool). growth_part n x (length (clipped line))) (is_blank_line-clipped line) in
+    let whole = growth_one line (is_blank_line line) n in
+    bounded _ _ _ _ front whole le
+  where
+    low_of : (n : ℕ) (l : List ℕ) → length (take n l) ≤ length l
+    low_of n l = omega (arith, length-take n l)
+
+    bounded : (a b x y : ℕ) → a ≡ x → b ≡ y → x ≤ y → a ≤ b
+    bounded a b x y ax by le = omega arith
+
+counts_clipped : (line : List ℕ) (before now : Store) → Counts (clipped line ∷ []) before now → Counts (line ∷ []) before now
+counts_clipped line before now counts = record {
+  later = counts.later;
+  kept = counts.kept;
+  added = counts.added;
+  met_is = counts.met_is;
+  full = All-weaker (IsFull (clipped line ∷ []) (count_of before) (pages_of before)) (IsFull (line ∷ []) (count_of before) (pages_of before))
+      (λ met full. let le = growth_clipped line (met.nth - count_of before) in record { why = full.why; since_then = full.since_then; pages_are = omega (arith, full.pages_are, le) })
+      counts.added counts.full;
+}
+
+growth_whole : (line : List ℕ) → growth (statements (clipped line ∷ [])) ≤ growth (statements (line ∷ []))
+growth_whole line =
+    let le = growth_clipped line 1 in
+    bounded _ _ _ _ (ap growth (all_one (clipped line) (is_blank_line (clipped line)))) (ap growth (all_one line (is_blank_line line))) le
+  where
+    all_one : (l : List ℕ) (blank : Bool) → take 1 (cond (not blank) (l ∷ []) []) ≡ cond (not blank) (l ∷ []) []
+    all_one l true = refl
+    all_one l false = refl
+
+    bounded : (a b x y : ℕ) → a ≡ x → b ≡ y → a ≤ b → x ≤ y
+    bounded a b x y ax by le = omega arith
 
 -- a line may be clipped
-pub does_clipped : (tells : Bool) (line : List ℕ) (w0 w1 : World) (r0 r1 : Bool) (s0 s1 : State) → Does tells (clipped line ∷ []) w0 w1 r0 r1 s0 s1 → Does tells (line ∷ []) w0 w1 r0 r1 s0 s1
-does_clipped tells line w0 w1 r0 r1 s0 s1 does =
-    let outs = outcomes_same w0 (clipped line) line (is_blank_line-clipped line) (read_line-clipped line) in record {
-      world = does.world ∙ world_same w0 (clipped line) line (is_blank_line-clipped line) (read_line-clipped line);
-      refused = does.refused ∙ ap (λ (os : List Outcome). r0 || refused_of os) outs;
-      out = λ h. does.out h ∙ ap (λ (os : List Outcome). s0.out ++ text_of os) outs;
-      err = does.err;
+done_clipped : (tells : Bool) (xs : Exceptions) (line : List ℕ) (w0 w1 : World) (r0 r1 : Bool) (s0 s1 : State) → Done tells xs (clipped line ∷ []) w0 w1 r0 r1 s0 s1 → Done tells xs (line ∷ []) w0 w1 r0 r1 s0 s1
+done_clipped tells xs line w0 w1 r0 r1 s0 s1 done =
+    let outs = outcomes_same w0 (clipped line) line xs (is_blank_line-clipped line) (read_line-clipped line) in
+    let long = length_same line in
+    record {
+      world = done.world ∙ world_same w0 (clipped line) line xs (is_blank_line-clipped line) (read_line-clipped line);
+      refused = done.refused ∙ ap (λ (os : List Outcome). r0 || refused_of os) outs;
+      acked = subst (λ (n : ℕ). acknowledged (told w0 (line ∷ []) xs) ≤ n) long (subst (λ (os : List Outcome). acknowledged (text_of os) ≤ length (statements (clipped line ∷ []))) outs done.acked);
+      out = λ h. done.out h ∙ ap (λ (os : List Outcome). s0.out ++ text_of os) outs;
+      err = done.err;
+      alone = done.alone;
+      moments = λ h was. weakened s0 s1 (Leaves w0 (clipped line ∷ []) xs s0.out) (Leaves w0 (line ∷ []) xs s0.out) (done.moments h was) (leaves_clipped w0 line xs s0.out);
     }
 
-pub tells_part_clipped : (tells : Bool) (line : List ℕ) (w : World) (s0 s1 : State) → TellsPart tells (clipped line ∷ []) w s0 s1 → TellsPart tells (line ∷ []) w s0 s1
-tells_part_clipped tells line w s0 s1 part =
-    let outs = outcomes_same w (clipped line) line (is_blank_line-clipped line) (read_line-clipped line) in record {
+done_part_clipped : (tells : Bool) (xs : Exceptions) (line : List ℕ) (w : World) (s0 s1 : State) → DonePart tells xs (clipped line ∷ []) w s0 s1 → DonePart tells xs (line ∷ []) w s0 s1
+done_part_clipped tells xs line w s0 s1 part =
+    let outs = outcomes_same w (clipped line) line xs (is_blank_line-clipped line) (read_line-clipped line) in record {
       out = λ h. ((part.out h).0, (part.out h).1 ∙ ap (λ (os : List Outcome). s0.out ++ take (part.out h).0 (text_of os)) outs);
       err = part.err;
+      moments = λ h was. weakened s0 s1 (Leaves w (clipped line ∷ []) xs s0.out) (Leaves w (line ∷ []) xs s0.out) (part.moments h was) (leaves_clipped w line xs s0.out);
     }
 
+pub does_clipped : (tells : Bool) (line : List ℕ) (st0 st1 : Store) (r0 r1 : Bool) (s0 s1 : State) → Does tells (clipped line ∷ []) st0 st1 r0 r1 s0 s1 → Does tells (line ∷ []) st0 st1 r0 r1 s0 s1
+does_clipped tells line st0 st1 r0 r1 s0 s1 does = record {
+  counts = counts_clipped line st0 st1 does.counts;
+  count = does.count ∙ ap (λ (n : ℕ). count_of st0 + n) (length_same line);
+  pages = let le = growth_whole line in omega (arith, does.pages, le);
+  all = λ xs met. done_clipped tells xs line (tables_of st0) (tables_of st1) r0 r1 s0 s1 (does.all xs met);
+}
+
+pub does_part_clipped : (tells : Bool) (line : List ℕ) (st0 st1 : Store) (s0 s1 : State) → DoesPart tells (clipped line ∷ []) st0 st1 s0 s1 → DoesPart tells (line ∷ []) st0 st1 s0 s1
+does_part_clipped tells line st0 st1 s0 s1 part = record {
+  counts = counts_clipped line st0 st1 part.counts;
+  all = λ xs met. done_part_clipped tells xs line (tables_of st0) s0 s1 (part.all xs met);
+}
+
 -- whether an earlier line was refused is kept
-pub does_since : (tells : Bool) (lines : List (List ℕ)) (w0 w1 : World) (was is : Bool) (s0 s1 : State) → Does tells lines w0 w1 false is s0 s1 → Does tells lines w0 w1 was (was || is) s0 s1
-does_since tells lines w0 w1 was is s0 s1 does = record { world = does.world; refused = ap (λ (r : Bool). was || r) does.refused; out = does.out; err = does.err }
+pub does_since : (tells : Bool) (lines : List (List ℕ)) (st0 st1 : Store) (was is : Bool) (s0 s1 : State) → Does tells lines st0 st1 false is s0 s1 → Does tells lines st0 st1 was (was || is) s0 s1
+does_since tells lines st0 st1 was is s0 s1 does = record {
+  counts = does.counts;
+  count = does.count;
+  pages = does.pages;
+  all = λ xs met. let done = does.all xs met in record {
+    world = done.world;
+    refused = ap (λ (r : Bool). was || r) done.refused;
+    acked = done.acked;
+    out = done.out;
+    err = done.err;
+    alone = done.alone;
+    moments = done.moments;
+  };
+}

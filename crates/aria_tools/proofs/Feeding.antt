@@ -5,14 +5,14 @@ use Rattle.std.proofs.lemmas.List.{append-nil, append_assoc, take-append-drop, l
 use Rattle.std.proofs.lemmas.List.Folds.{list_any-append}
 use Rattle.std.proofs.Math.Seq.{drop-cons, take-length}
 use Rattle.aria_host.specs.State.{State}
-use Rattle.aria_model.specs.World.{World}
 use Rattle.aria_model.specs.Script.{lines_of, ended_lines}
 use Rattle.aria_tools.specs.Held.{clipped, CutsLine, Splits, is_lf}
-use Rattle.aria_tools.specs.Turns.{Does, TellsPart}
+use Rattle.aria_engine.specs.declared.store.Store.{Store}
+use Rattle.aria_engine.specs.Done.{Does, DoesPart}
+use Rattle.aria_engine.proofs.Doing.{HoldsNow, does_nothing, does_more, does_part, does_then_part, does_part_more}
 use Rattle.aria_tools.specs.Pieces.{Fed}
 use Rattle.aria_tools.proofs.Splitting.{splits_rest, splits_line, splits_more}
 use Rattle.aria_model.proofs.Lines.{ended_lines-line, ended_lines-rest, lines_of-rest}
-use Rattle.aria_tools.proofs.Doing.{does_nothing, does_more, does_part, does_then_part, tells_part_more}
 
 no_lf_step : (is more : Bool) → (is ≡ true → ⊥) → more ≡ false → (is || more) ≡ false
 no_lf_step true more never none = absurd (never refl)
@@ -60,26 +60,26 @@ ended_last bytes here part splits none = splits.ended part
     ∙ ap (λ (ls : List (List ℕ)). ended_lines bytes ++ ls) (ended_lines-rest (here ++ part) (no_lf_both here part splits.no_lf none))
     ∙ append-nil (ended_lines bytes)
 
-pub fed_none : (tells : Bool) (rest : List ℕ) (w : World) (r : Bool) (s : State) → list_any is_lf rest ≡ false → Fed tells rest [] rest w w r r s s
-fed_none tells rest w r s none = let e = append-nil rest in record {
+pub fed_none : (tells : Bool) (rest : List ℕ) (st : Store) (r : Bool) (s : State) → HoldsNow tells st s → list_any is_lf rest ≡ false → Fed tells rest [] rest st st r r s s
+fed_none tells rest st r s here none = let e = append-nil rest in record {
   splits = subst (λ (l : List ℕ). Splits l rest) (sym e) (splits_rest rest none);
-  does = subst (λ (ls : List (List ℕ)). Does tells ls w w r r s s) (sym (ap ended_lines e ∙ ended_lines-rest rest none)) (does_nothing tells w r s);
+  does = subst (λ (ls : List (List ℕ)). Does tells ls st st r r s s) (sym (ap ended_lines e ∙ ended_lines-rest rest none)) (does_nothing tells st r s here);
 }
 
-pub fed_line : (tells : Bool) (rest front here word : List ℕ) (w0 w1 w2 : World) (r0 r1 r2 : Bool) (s0 s1 s2 : State)
-    → Fed tells rest front here w0 w1 r0 r1 s0 s1 → list_any is_lf word ≡ false → Does tells ((here ++ word) ∷ []) w1 w2 r1 r2 s1 s2
-    → Fed tells rest (front ++ (word ++ 10 ∷ [])) [] w0 w2 r0 r2 s0 s2
-fed_line tells rest front here word w0 w1 w2 r0 r1 r2 s0 s1 s2 fed none does = let e = append_assoc rest front (word ++ 10 ∷ []) in record {
+pub fed_line : (tells : Bool) (rest front here word : List ℕ) (st0 st1 st2 : Store) (r0 r1 r2 : Bool) (s0 s1 s2 : State)
+    → Fed tells rest front here st0 st1 r0 r1 s0 s1 → list_any is_lf word ≡ false → Does tells ((here ++ word) ∷ []) st1 st2 r1 r2 s1 s2
+    → Fed tells rest (front ++ (word ++ 10 ∷ [])) [] st0 st2 r0 r2 s0 s2
+fed_line tells rest front here word st0 st1 st2 r0 r1 r2 s0 s1 s2 fed none does = let e = append_assoc rest front (word ++ 10 ∷ []) in record {
   splits = subst (λ (l : List ℕ). Splits l []) e (splits_next (rest ++ front) here word fed.splits none);
-  does = subst (λ (ls : List (List ℕ)). Does tells ls w0 w2 r0 r2 s0 s2) (sym (ended_next (rest ++ front) here word fed.splits none) ∙ ap ended_lines e)
-      (does_more tells (ended_lines (rest ++ front)) ((here ++ word) ∷ []) w0 w1 w2 r0 r1 r2 s0 s1 s2 fed.does does);
+  does = subst (λ (ls : List (List ℕ)). Does tells ls st0 st2 r0 r2 s0 s2) (sym (ended_next (rest ++ front) here word fed.splits none) ∙ ap ended_lines e)
+      (does_more tells (ended_lines (rest ++ front)) ((here ++ word) ∷ []) st0 st1 st2 r0 r1 r2 s0 s1 s2 fed.does does);
 }
 
-pub fed_last : (tells : Bool) (rest front here part : List ℕ) (w0 w1 : World) (r0 r1 : Bool) (s0 s1 : State)
-    → Fed tells rest front here w0 w1 r0 r1 s0 s1 → list_any is_lf part ≡ false → Fed tells rest (front ++ part) (here ++ part) w0 w1 r0 r1 s0 s1
-fed_last tells rest front here part w0 w1 r0 r1 s0 s1 fed none = let e = append_assoc rest front part in record {
+pub fed_last : (tells : Bool) (rest front here part : List ℕ) (st0 st1 : Store) (r0 r1 : Bool) (s0 s1 : State)
+    → Fed tells rest front here st0 st1 r0 r1 s0 s1 → list_any is_lf part ≡ false → Fed tells rest (front ++ part) (here ++ part) st0 st1 r0 r1 s0 s1
+fed_last tells rest front here part st0 st1 r0 r1 s0 s1 fed none = let e = append_assoc rest front part in record {
   splits = subst (λ (l : List ℕ). Splits l (here ++ part)) e (splits_last (rest ++ front) here part fed.splits none);
-  does = subst (λ (ls : List (List ℕ)). Does tells ls w0 w1 r0 r1 s0 s1) (sym (ended_last (rest ++ front) here part fed.splits none) ∙ ap ended_lines e) fed.does;
+  does = subst (λ (ls : List (List ℕ)). Does tells ls st0 st1 r0 r1 s0 s1) (sym (ended_last (rest ++ front) here part fed.splits none) ∙ ap ended_lines e) fed.does;
 }
 
 -- the piece behind a line that LF ends
@@ -87,10 +87,10 @@ pub front_next : (piece front left word behind : List ℕ) → piece ≡ front +
 front_next piece front left word behind is cut = is ∙ ap (λ (l : List ℕ). front ++ l) (cut ∙ sym (append_assoc word (10 ∷ []) behind)) ∙ sym (append_assoc front (word ++ 10 ∷ []) behind)
 
 -- a line that isn't answered to its end
-pub fed_part_line : (tells : Bool) (rest piece front here left word behind : List ℕ) (w0 w1 : World) (r0 r1 : Bool) (s0 s1 s2 : State)
-    → Fed tells rest front here w0 w1 r0 r1 s0 s1 → piece ≡ front ++ left → CutsLine left word behind → TellsPart tells ((here ++ word) ∷ []) w1 s1 s2
-    → TellsPart tells (ended_lines (rest ++ piece)) w0 s0 s2
-fed_part_line tells rest piece front here left word behind w0 w1 r0 r1 s0 s1 s2 fed is cut part =
+pub fed_part_line : (tells : Bool) (rest piece front here left word behind : List ℕ) (st0 st1 st2 : Store) (r0 r1 : Bool) (s0 s1 s2 : State)
+    → Fed tells rest front here st0 st1 r0 r1 s0 s1 → piece ≡ front ++ left → CutsLine left word behind → DoesPart tells ((here ++ word) ∷ []) st1 st2 s1 s2
+    → DoesPart tells (ended_lines (rest ++ piece)) st0 st2 s0 s2
+fed_part_line tells rest piece front here left word behind st0 st1 st2 r0 r1 s0 s1 s2 fed is cut part =
     let bytes = rest ++ front in
     let next = splits_next bytes here word fed.splits cut.no_lf in
     let whole : rest ++ piece ≡ (bytes ++ (word ++ 10 ∷ [])) ++ behind =
@@ -98,19 +98,19 @@ fed_part_line tells rest piece front here left word behind w0 w1 r0 r1 s0 s1 s2 
     ∙ sym (append_assoc rest (front ++ (word ++ 10 ∷ [])) behind) ∙ ap (λ (l : List ℕ). l ++ behind) (sym (append_assoc rest front (word ++ 10 ∷ []))) in
     let lines : ended_lines (rest ++ piece) ≡ (ended_lines bytes ++ (here ++ word) ∷ []) ++ ended_lines behind =
     ap ended_lines whole ∙ next.ended behind ∙ ap (λ (ls : List (List ℕ)). ls ++ ended_lines behind) (ended_next bytes here word fed.splits cut.no_lf) in
-    subst (λ (ls : List (List ℕ)). TellsPart tells ls w0 s0 s2) (sym lines)
-    (tells_part_more tells (ended_lines bytes ++ (here ++ word) ∷ []) (ended_lines behind) w0 s0 s2
-    (does_then_part tells (ended_lines bytes) ((here ++ word) ∷ []) w0 w1 r0 r1 s0 s1 s2 fed.does part))
+    subst (λ (ls : List (List ℕ)). DoesPart tells ls st0 st2 s0 s2) (sym lines)
+    (does_part_more tells (ended_lines bytes ++ (here ++ word) ∷ []) (ended_lines behind) st0 st2 s0 s2
+    (does_then_part tells (ended_lines bytes) ((here ++ word) ∷ []) st0 st1 st2 r0 r1 s0 s1 s2 fed.does part))
 
 -- lines that are answered before the piece ends
-pub fed_part : (tells : Bool) (rest piece front here left : List ℕ) (w0 w1 : World) (r0 r1 : Bool) (s0 s1 : State)
-    → Fed tells rest front here w0 w1 r0 r1 s0 s1 → piece ≡ front ++ left → TellsPart tells (ended_lines (rest ++ piece)) w0 s0 s1
-fed_part tells rest piece front here left w0 w1 r0 r1 s0 s1 fed is =
+pub fed_part : (tells : Bool) (rest piece front here left : List ℕ) (st0 st1 : Store) (r0 r1 : Bool) (s0 s1 : State)
+    → Fed tells rest front here st0 st1 r0 r1 s0 s1 → piece ≡ front ++ left → DoesPart tells (ended_lines (rest ++ piece)) st0 st1 s0 s1
+fed_part tells rest piece front here left st0 st1 r0 r1 s0 s1 fed is =
     let lines : ended_lines (rest ++ piece) ≡ ended_lines (rest ++ front) ++ ended_lines (here ++ left) =
     ap (λ (l : List ℕ). ended_lines (rest ++ l)) is ∙ ap ended_lines (sym (append_assoc rest front left)) ∙ fed.splits.ended left in
-    subst (λ (ls : List (List ℕ)). TellsPart tells ls w0 s0 s1) (sym lines)
-    (tells_part_more tells (ended_lines (rest ++ front)) (ended_lines (here ++ left)) w0 s0 s1
-    (does_part tells (ended_lines (rest ++ front)) w0 w1 r0 r1 s0 s1 fed.does))
+    subst (λ (ls : List (List ℕ)). DoesPart tells ls st0 st1 s0 s1) (sym lines)
+    (does_part_more tells (ended_lines (rest ++ front)) (ended_lines (here ++ left)) st0 st1 s0 s1
+    (does_part tells (ended_lines (rest ++ front)) st0 st1 r0 r1 s0 s1 fed.does))
 
 taken_none : (n : ℕ) (rest : List ℕ) → 0 < n → length (take n rest) ≡ 0 → rest ≡ []
 taken_none n [] low none = refl

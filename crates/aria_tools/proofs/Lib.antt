@@ -1,7 +1,8 @@
-pub mod Answering
 pub mod Doing
 pub mod Splitting
 pub mod Holding
 pub mod Feeding
 pub mod Pieces
 pub mod Runs
+pub mod Ready
+pub mod Commands

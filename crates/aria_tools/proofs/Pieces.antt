@@ -1,28 +1,30 @@
 -- A script that is read piece by piece.
-use Rattle.std.proofs.Common.{◌≡◌, ℕ, ◌+◌, ◌-◌, ◌^◌, ◌≤◌, min, Bool, List, [], ◌++◌, length, take, sym, ap, subst, ◌∙◌, arith}
+use Rattle.std.proofs.Common.{◌≡◌, ℕ, ◌+◌, ◌-◌, ◌^◌, ◌≤◌, min, Bool, List, [], ◌++◌, length, take, refl, sym, ap, subst, ◌∙◌, arith}
 use Rattle.std.proofs.lemmas.List.{append_assoc, length-append, length-take-le}
 use Rattle.aria_host.specs.State.{State}
-use Rattle.aria_model.specs.World.{World}
-use Rattle.aria_model.specs.Script.{lines_of, ended_lines}
+use Rattle.aria_model.specs.Script.{Exceptions, lines_of, ended_lines}
 use Rattle.aria_model.proofs.Lines.{ended_lines-front}
 use Rattle.aria_tools.specs.declared.stop.Stop.{Stop}
-use Rattle.aria_tools.specs.declared.stop.Stop.TheVariants.{Memory, Disk, Input, Tell, TooLong}
+use Rattle.aria_tools.specs.declared.stop.Stop.TheVariants.{Memory, Disk, LogDamaged, NotOurs, Input, Tell, TooLong}
 use Rattle.aria_tools.specs.Held.{Splits}
-use Rattle.aria_tools.specs.Turns.{Does, TellsPart}
-use Rattle.aria_tools.specs.Stops.{IsOutputStop}
-use Rattle.aria_tools.specs.Endings.{Supply, Counts, Took, TookFew, StopsBy}
+use Rattle.aria_engine.specs.declared.store.Store.{Store}
+use Rattle.aria_engine.specs.Store.{tables_of, count_of, SameFaults, NoFewerFaults}
+use Rattle.aria_engine.specs.Done.{Does, DoesPart, AreMet}
+use Rattle.aria_engine.proofs.Doing.{does_more, does_part, does_then_part, does_part_more}
+use Rattle.aria_tools.specs.Stops.{IsLineStop}
+use Rattle.aria_tools.specs.Endings.{Supply, Counts, Took, TookFew, StopsBy, AnswersBy}
 use Rattle.aria_tools.specs.Pieces.{Fed, TakesPiece, NoPiece}
+use Rattle.aria_tools.specs.Sessions.{LineStops}
 use Rattle.aria_tools.proofs.Splitting.{splits_more}
-use Rattle.aria_tools.proofs.Doing.{does_more, does_part, does_then_part, tells_part_more}
 
 -- So much was read; the lines that LF ends in it are answered.
-pub record Reached (ti to : Bool) (taken : ℕ) (read rest : List ℕ) (w0 w1 : World) (r0 r1 : Bool) (h0 h1 : State) (s0 s1 : Supply) : Type 0 where
+pub record Reached (ti to : Bool) (taken : ℕ) (read rest : List ℕ) (st0 st1 : Store) (r0 r1 : Bool) (h0 h1 : State) (s0 s1 : Supply) : Type 0 where
   pub size : length read ≡ taken
   pub few : taken ≤ 2 ^ 40
   pub took : Took ti read s0 s1
-  pub fed : Fed to [] read rest w0 w1 r0 r1 h0 h1
-  pub faults : s0.faults ≤ s1.faults
-  pub later : h0.tell_faults ≤ h1.tell_faults
+  pub fed : Fed to [] read rest st0 st1 r0 r1 h0 h1
+  pub faults : s1.faults ≡ s0.faults
+  pub calm : SameFaults h0 h1
 
 pub counts_more : (a b c k n : ℕ) → Counts a k b → Counts b n c → Counts a (k + n) c
 counts_more a b c k n first then = record { no_more = omega (arith, first.no_more, then.no_more); no_fewer = fewer a b c k n (2 ^ 128 - 1) first.no_fewer then.no_fewer }
@@ -45,66 +47,85 @@ took_more t n taken read piece s0 s1 s2 took takes =
     }
 
 -- The lines that end in the next piece are answered too.
-pub fed_more : (t : Bool) (read rest piece held : List ℕ) (w0 w1 w2 : World) (r0 r1 r2 : Bool) (h0 h1 h2 : State)
-    → Fed t [] read rest w0 w1 r0 r1 h0 h1 → Splits (rest ++ piece) held → Does t (ended_lines (rest ++ piece)) w1 w2 r1 r2 h1 h2
-    → Fed t [] (read ++ piece) held w0 w2 r0 r2 h0 h2
-fed_more t read rest piece held w0 w1 w2 r0 r1 r2 h0 h1 h2 fed splits does = record {
+pub fed_more : (t : Bool) (read rest piece held : List ℕ) (st0 st1 st2 : Store) (r0 r1 r2 : Bool) (h0 h1 h2 : State)
+    → Fed t [] read rest st0 st1 r0 r1 h0 h1 → Splits (rest ++ piece) held → Does t (ended_lines (rest ++ piece)) st1 st2 r1 r2 h1 h2
+    → Fed t [] (read ++ piece) held st0 st2 r0 r2 h0 h2
+fed_more t read rest piece held st0 st1 st2 r0 r1 r2 h0 h1 h2 fed splits does = record {
   splits = splits_more read rest piece held fed.splits splits;
-  does = subst (λ (ls : List (List ℕ)). Does t ls w0 w2 r0 r2 h0 h2) (sym (fed.splits.ended piece))
-      (does_more t (ended_lines read) (ended_lines (rest ++ piece)) w0 w1 w2 r0 r1 r2 h0 h1 h2 fed.does does);
+  does = subst (λ (ls : List (List ℕ)). Does t ls st0 st2 r0 r2 h0 h2) (sym (fed.splits.ended piece))
+      (does_more t (ended_lines read) (ended_lines (rest ++ piece)) st0 st1 st2 r0 r1 r2 h0 h1 h2 fed.does does);
 }
 
 -- what was told when a piece wasn't answered to its end is a front of what all lines tell
-pub part_of_all : (t : Bool) (read rest piece more all : List ℕ) (w0 w1 : World) (r0 r1 : Bool) (h0 h1 h2 : State)
-    → Fed t [] read rest w0 w1 r0 r1 h0 h1 → all ≡ (read ++ piece) ++ more → TellsPart t (ended_lines (rest ++ piece)) w1 h1 h2 → TellsPart t (lines_of all) w0 h0 h2
-part_of_all t read rest piece more all w0 w1 r0 r1 h0 h1 h2 fed is part =
+pub part_of_all : (t : Bool) (read rest piece more all : List ℕ) (st0 st1 st2 : Store) (r0 r1 : Bool) (h0 h1 h2 : State)
+    → Fed t [] read rest st0 st1 r0 r1 h0 h1 → all ≡ (read ++ piece) ++ more → DoesPart t (ended_lines (rest ++ piece)) st1 st2 h1 h2 → DoesPart t (lines_of all) st0 st2 h0 h2
+part_of_all t read rest piece more all st0 st1 st2 r0 r1 h0 h1 h2 fed is part =
     let front = ended_lines-front (rest ++ piece) more in
     let lines : lines_of all ≡ (ended_lines read ++ ended_lines (rest ++ piece)) ++ front.0 =
     ap lines_of (is ∙ append_assoc read piece more) ∙ fed.splits.lines (piece ++ more)
     ∙ ap (λ (l : List ℕ). ended_lines read ++ lines_of l) (sym (append_assoc rest piece more))
     ∙ ap (λ (ls : List (List ℕ)). ended_lines read ++ ls) front.1
     ∙ sym (append_assoc (ended_lines read) (ended_lines (rest ++ piece)) front.0) in
-    subst (λ (ls : List (List ℕ)). TellsPart t ls w0 h0 h2) (sym lines)
-    (tells_part_more t (ended_lines read ++ ended_lines (rest ++ piece)) front.0 w0 h0 h2
-    (does_then_part t (ended_lines read) (ended_lines (rest ++ piece)) w0 w1 r0 r1 h0 h1 h2 fed.does part))
+    subst (λ (ls : List (List ℕ)). DoesPart t ls st0 st2 h0 h2) (sym lines)
+    (does_part_more t (ended_lines read ++ ended_lines (rest ++ piece)) front.0 st0 st2 h0 h2
+    (does_then_part t (ended_lines read) (ended_lines (rest ++ piece)) st0 st1 st2 r0 r1 h0 h1 h2 fed.does part))
 
 -- and so is what was told between two pieces
-pub fed_of_all : (t : Bool) (read rest more all : List ℕ) (w0 w1 : World) (r0 r1 : Bool) (h0 h1 : State)
-    → Fed t [] read rest w0 w1 r0 r1 h0 h1 → all ≡ read ++ more → TellsPart t (lines_of all) w0 h0 h1
-fed_of_all t read rest more all w0 w1 r0 r1 h0 h1 fed is =
-    subst (λ (ls : List (List ℕ)). TellsPart t ls w0 h0 h1) (sym (ap lines_of is ∙ fed.splits.lines more))
-    (tells_part_more t (ended_lines read) (lines_of (rest ++ more)) w0 h0 h1 (does_part t (ended_lines read) w0 w1 r0 r1 h0 h1 fed.does))
+pub fed_of_all : (t : Bool) (read rest more all : List ℕ) (st0 st1 : Store) (r0 r1 : Bool) (h0 h1 : State)
+    → Fed t [] read rest st0 st1 r0 r1 h0 h1 → all ≡ read ++ more → DoesPart t (lines_of all) st0 st1 h0 h1
+fed_of_all t read rest more all st0 st1 r0 r1 h0 h1 fed is =
+    subst (λ (ls : List (List ℕ)). DoesPart t ls st0 st1 h0 h1) (sym (ap lines_of is ∙ fed.splits.lines more))
+    (does_part_more t (ended_lines read) (lines_of (rest ++ more)) st0 st1 h0 h1 (does_part t (ended_lines read) st0 st1 r0 r1 h0 h1 fed.does))
 
-rose_since : (a b c m : ℕ) → a ≤ b → min (b + 1) m ≤ c → min (a + 1) m ≤ c
-rose_since a b c m low rose = omega arith
+pub rose_since : (a b c m : ℕ) → b ≡ a → min (b + 1) m ≤ c → min (a + 1) m ≤ c
+rose_since a b c m same rose = omega arith
 
-pub took_few : (ti to : Bool) (taken : ℕ) (read rest : List ℕ) (w0 w1 : World) (r0 r1 : Bool) (h0 h1 : State) (s0 s1 : Supply)
-    → Reached ti to taken read rest w0 w1 r0 r1 h0 h1 s0 s1 → TookFew s0 s1
-took_few ti to taken read rest w0 w1 r0 r1 h0 h1 s0 s1 reached =
+pub took_few : (ti to : Bool) (taken : ℕ) (read rest : List ℕ) (st0 st1 : Store) (r0 r1 : Bool) (h0 h1 : State) (s0 s1 : Supply)
+    → Reached ti to taken read rest st0 st1 r0 r1 h0 h1 s0 s1 → TookFew s0 s1
+took_few ti to taken read rest st0 st1 r0 r1 h0 h1 s0 s1 reached =
     omega (arith, reached.took.number.no_more, reached.size, reached.few)
 
 -- the cause where no further piece comes
-pub no_piece_stops : (ti to : Bool) (stop : Stop) (taken : ℕ) (read rest : List ℕ) (w0 w1 : World) (r0 r1 : Bool) (h0 h1 : State) (s0 s1 s2 : Supply)
-    → Reached ti to taken read rest w0 w1 r0 r1 h0 h1 s0 s1 → NoPiece ti stop taken s1 s2 → StopsBy ti to stop s0 s2 w0 h0 h1
-no_piece_stops ti to Memory taken read rest w0 w1 r0 r1 h0 h1 s0 s1 s2 reached none = absurd none
-no_piece_stops ti to Disk taken read rest w0 w1 r0 r1 h0 h1 s0 s1 s2 reached none = absurd none
-no_piece_stops ti to Tell taken read rest w0 w1 r0 r1 h0 h1 s0 s1 s2 reached none = absurd none
-no_piece_stops ti to Input taken read rest w0 w1 r0 r1 h0 h1 s0 s1 s2 reached none = (
-  subst (λ (n : ℕ). n ≤ s0.taken + 2 ^ 40) (sym none.2) (took_few ti to taken read rest w0 w1 r0 r1 h0 h1 s0 s1 reached),
-  rose_since s0.faults s1.faults s2.faults (2 ^ 64 - 1) reached.faults none.0,
-  λ h. (read, reached.took.bytes_left h ∙ ap (λ (l : List ℕ). read ++ l) (sym none.1), reached.fed.does.out),
-)
-no_piece_stops ti to TooLong taken read rest w0 w1 r0 r1 h0 h1 s0 s1 s2 reached none =
-    let full : length read ≡ 2 ^ 40 = reached.size ∙ none.0 in (
-      counts_more s0.taken s1.taken s2.taken (2 ^ 40) 1 (subst (λ (n : ℕ). Counts s0.taken n s1.taken) full reached.took.number) none.1,
-      λ h. (read, (none.2 h).0, reached.took.bytes_left h ∙ ap (λ (l : List ℕ). read ++ l) (none.2 h).1, full, reached.fed.does.out),
-    )
+pub no_piece_stops : (ti to : Bool) (stop : Stop) (taken : ℕ) (read rest : List ℕ) (st0 st1 : Store) (r0 r1 : Bool) (h0 h1 : State) (s0 s1 s2 : Supply)
+    → Reached ti to taken read rest st0 st1 r0 r1 h0 h1 s0 s1 → NoPiece ti stop taken s1 s2 → LineStops ti to stop s0 s2 st0 st1 h0 h1
+no_piece_stops ti to Memory taken read rest st0 st1 r0 r1 h0 h1 s0 s1 s2 reached none = absurd none
+no_piece_stops ti to Disk taken read rest st0 st1 r0 r1 h0 h1 s0 s1 s2 reached none = absurd none
+no_piece_stops ti to (LogDamaged file page) taken read rest st0 st1 r0 r1 h0 h1 s0 s1 s2 reached none = absurd none
+no_piece_stops ti to (NotOurs file) taken read rest st0 st1 r0 r1 h0 h1 s0 s1 s2 reached none = absurd none
+no_piece_stops ti to Tell taken read rest st0 st1 r0 r1 h0 h1 s0 s1 s2 reached none = absurd none
+no_piece_stops ti to Input taken read rest st0 st1 r0 r1 h0 h1 s0 s1 s2 reached none = record {
+  cause = (
+    subst (λ (n : ℕ). n ≤ s0.taken + 2 ^ 40) (sym none.2) (took_few ti to taken read rest st0 st1 r0 r1 h0 h1 s0 s1 reached),
+    rose_since s0.faults s1.faults s2.faults (2 ^ 64 - 1) reached.faults none.0,
+  );
+  sound = refl;
+  by = λ h told xs met. (read, reached.took.bytes_left h ∙ ap (λ (l : List ℕ). read ++ l) (sym none.1), (reached.fed.does.all xs met).out told);
+}
+no_piece_stops ti to TooLong taken read rest st0 st1 r0 r1 h0 h1 s0 s1 s2 reached none =
+    let full : length read ≡ 2 ^ 40 = reached.size ∙ none.0 in
+    record {
+      cause = counts_more s0.taken s1.taken s2.taken (2 ^ 40) 1 (subst (λ (n : ℕ). Counts s0.taken n s1.taken) full reached.took.number) none.1;
+      sound = refl;
+      by = λ h told xs met. (read, (none.2 h).0, reached.took.bytes_left h ∙ ap (λ (l : List ℕ). read ++ l) (none.2 h).1, full, (reached.fed.does.all xs met).out told);
+    }
 
--- the cause where telling stops
-pub output_stops : (ti to : Bool) (stop : Stop) (s0 s1 : Supply) (w0 : World) (h0 h1 h2 : State)
-    → TookFew s0 s1 → h0.tell_faults ≤ h1.tell_faults → IsOutputStop stop h1 h2 → StopsBy ti to stop s0 s1 w0 h0 h2
-output_stops ti to Memory s0 s1 w0 h0 h1 h2 few later is = few
-output_stops ti to Disk s0 s1 w0 h0 h1 h2 few later is = absurd is
-output_stops ti to Input s0 s1 w0 h0 h1 h2 few later is = absurd is
-output_stops ti to Tell s0 s1 w0 h0 h1 h2 few later is = (few, rose_since h0.tell_faults h1.tell_faults h2.tell_faults (2 ^ 64 - 1) later is)
-output_stops ti to TooLong s0 s1 w0 h0 h1 h2 few later is = absurd is
+-- the cause where the execution of a line stops
+pub line_stops : (ti to : Bool) (stop : Stop) (s0 s1 : Supply) (st0 st2 : Store) (h0 h1 h2 : State)
+    → TookFew s0 s1 → SameFaults h0 h1 → IsLineStop stop h1 h2 → LineStops ti to stop s0 s1 st0 st2 h0 h2
+line_stops ti to Memory s0 s1 st0 st2 h0 h1 h2 few same is = record { cause = few; sound = refl; by = λ h told xs met. tt }
+line_stops ti to Disk s0 s1 st0 st2 h0 h1 h2 few same is = record { cause = (few, rose_since h0.disk_faults h1.disk_faults h2.disk_faults (2 ^ 64 - 1) same.disk is); sound = refl; by = λ h told xs met. tt }
+line_stops ti to (LogDamaged file page) s0 s1 st0 st2 h0 h1 h2 few same is = absurd is
+line_stops ti to (NotOurs file) s0 s1 st0 st2 h0 h1 h2 few same is = absurd is
+line_stops ti to Input s0 s1 st0 st2 h0 h1 h2 few same is = absurd is
+line_stops ti to Tell s0 s1 st0 st2 h0 h1 h2 few same is = record { cause = (few, rose_since h0.tell_faults h1.tell_faults h2.tell_faults (2 ^ 64 - 1) same.tell is); sound = refl; by = λ h told xs met. tt }
+line_stops ti to TooLong s0 s1 st0 st2 h0 h1 h2 few same is = absurd is
+
+-- no fault was counted in one run and then another
+pub same_faults_more : (a b c : State) → SameFaults a b → SameFaults b c → SameFaults a c
+same_faults_more a b c first then = record { disk = then.disk ∙ first.disk; tell = then.tell ∙ first.tell }
+
+pub no_fewer_more : (a b c : State) → NoFewerFaults a b → NoFewerFaults b c → NoFewerFaults a c
+no_fewer_more a b c first then = record { disk = omega (arith, first.disk, then.disk); tell = omega (arith, first.tell, then.tell) }
+
+pub no_fewer_same : (a b : State) → SameFaults a b → NoFewerFaults a b
+no_fewer_same a b same = record { disk = omega (arith, same.disk); tell = omega (arith, same.tell) }

@@ -1,68 +1,121 @@
 -- A whole run, from what is done where its input ends or it stops.
-use Rattle.std.proofs.Common.{◌≡◌, ℕ, ◌^◌, ◌≤◌, Bool, false, List, [], ◌++◌, length, take, IsTrue, Result, Ok, Err, sym, ap, subst, ◌∙◌, arith}
-use Rattle.std.specs.Prelude.{IfOk, IfErr, OnErr}
+use Rattle.std.proofs.Common.{◌≡◌, ℕ, ◌+◌, ◌^◌, ◌<◌, ◌≤◌, Bool, false, List, [], ◌++◌, length, IsTrue, Result, Ok, Err, refl, sym, ap, subst, ◌∙◌, arith, zero-add}
+use Rattle.std.specs.Prelude.{All, IfOk, IfErr, OnErr, OnOk}
 use Rattle.std.proofs.lemmas.List.{append-nil}
 use Rattle.std.proofs.Math.Seq.{take-length}
-use Rattle.aria_host.specs.State.{State}
-use Rattle.aria_model.specs.World.{World, empty_world}
-use Rattle.aria_model.specs.Script.{lines_of, ended_lines, told, any_refused, no_exception}
+use Rattle.aria_host.specs.State.{Folder, State, LeavesOnly}
+use Rattle.aria_model.specs.declared.refusal.Met.{Met}
+use Rattle.aria_model.specs.World.{World}
+use Rattle.aria_model.specs.Script.{Exceptions, lines_of, ended_lines, statements, world_after, after, told, any_refused, acknowledged}
+use Rattle.aria_model.specs.Journal.{met_at}
+use Rattle.aria_engine.specs.declared.store.Store.{Store}
+use Rattle.aria_engine.specs.Holds.{Holds, EachHolds, AreLogAlone, AtRest, IsSettled}
+use Rattle.aria_engine.specs.Store.{tables_of, count_of, pages_of, met_of, IsFresh, SameFaults, NoFewerFaults}
+use Rattle.aria_engine.specs.Done.{Leaves, Does, DoesPart, AreMet, IsFull, Counts as Tallies}
+use Rattle.aria_engine.proofs.Running.{running_holds, running_rests, running_settled}
+use Rattle.aria_engine.proofs.Doing.{does_more, does_then_part}
 use Rattle.aria_tools.specs.declared.stop.Stop.{Stop}
-use Rattle.aria_tools.specs.Turns.{Does, TellsPart}
-use Rattle.aria_tools.specs.Stops.{IsOutputStop}
-use Rattle.aria_tools.specs.Endings.{Supply, Took, StopsBy, Runs}
-use Rattle.aria_tools.specs.Pieces.{Fed}
-use Rattle.aria_tools.proofs.Doing.{does_more, does_then_part}
-use Rattle.aria_tools.proofs.Pieces.{output_stops}
+use Rattle.aria_tools.specs.Stops.{IsLineStop}
+use Rattle.aria_tools.specs.Endings.{Supply, Took, StopsBy, Ends, Runs, Prefix}
+use Rattle.aria_tools.specs.Pieces.{Fed, IsReady}
+use Rattle.aria_tools.specs.Sessions.{LineStops, RunsOn, RunsFrom}
+use Rattle.aria_tools.proofs.Pieces.{line_stops, same_faults_more, no_fewer_more, no_fewer_same}
 
--- where a run stops
-pub stopped_runs : (ti to : Bool) (s0 s1 : Supply) (r : Result Bool Stop) (h0 h1 : State) (stop : Stop) → r ≡ Err stop
-    → (IsTrue ti → TellsPart to (lines_of s0.left) empty_world h0 h1) → StopsBy ti to stop s0 s1 empty_world h0 h1 → Runs ti to s0 s1 r h0 h1
-stopped_runs ti to s0 s1 r h0 h1 stop is part cause = subst (λ (o : Result Bool Stop). Runs ti to s0 s1 o h0 h1) (sym is) (stopped ti to s0 s1 stop h0 h1 part cause)
-  where
-    stopped : (ti to : Bool) (s0 s1 : Supply) (stop : Stop) (h0 h1 : State) → (IsTrue ti → TellsPart to (lines_of s0.left) empty_world h0 h1)
-        → StopsBy ti to stop s0 s1 empty_world h0 h1 → Runs ti to s0 s1 (Err stop) h0 h1
-    stopped ti to s0 s1 stop h0 h1 part cause = record { out = part; cause = cause }
+-- the exceptions that were met in the end
+abbrev met_since : Store → Store → Exceptions
+met_since before now = λ k. met_of now (count_of before + k)
 
--- all bytes are read, with the lines that end in them, and the last
-lines_of_all : (to : Bool) (read rest : List ℕ) (w0 w1 : World) (r0 r1 : Bool) (h0 h1 : State) → Fed to [] read rest w0 w1 r0 r1 h0 h1 → lines_of read ≡ ended_lines read ++ lines_of rest
-lines_of_all to read rest w0 w1 r0 r1 h0 h1 fed =
-    ap lines_of (sym (append-nil read)) ∙ fed.splits.lines [] ∙ ap (λ (l : List ℕ). ended_lines read ++ lines_of l) (append-nil rest)
-
--- where its input ends, and the last line is answered or not
-pub finished_runs : (ti to : Bool) (s0 s1 : Supply) (r : Result Bool Stop) (h0 h1 h2 : State) (read rest : List ℕ) (w1 w2 : World) (r1 : Bool)
-    → Fed to [] read rest empty_world w1 false r1 h0 h1 → Took ti read s0 s1 → (IsTrue ti → s1.left ≡ []) → length read ≤ 2 ^ 40 → h0.tell_faults ≤ h1.tell_faults
-    → IfOk r (λ refused. Does to (lines_of rest) w1 w2 r1 refused h1 h2) → OnErr r (TellsPart to (lines_of rest) w1 h1 h2) → IfErr r (λ stop. IsOutputStop stop h1 h2)
-    → Runs ti to s0 s1 r h0 h2
-finished_runs ti to s0 s1 (Ok refused) h0 h1 h2 read rest w1 w2 r1 fed took end few later done part cause =
-    let lines = lines_of_all to read rest empty_world w1 false r1 h0 h1 fed in
-    let does = subst (λ (ls : List (List ℕ)). Does to ls empty_world w2 false refused h0 h2) (sym lines)
-    (does_more to (ended_lines read) (lines_of rest) empty_world w1 w2 false r1 refused h0 h1 h2 fed.does done) in
-    let all : IsTrue ti → s0.left ≡ read = λ h. took.bytes_left h ∙ ap (λ (l : List ℕ). read ++ l) (end h) ∙ append-nil read in
-    record {
-      few = omega (arith, took.number.no_more, few);
-      ended = end;
-      out = λ h to_h. does.out to_h ∙ ap (λ (l : List ℕ). h0.out ++ told empty_world (lines_of l) no_exception) (sym (all h));
-      is_refused = λ h. does.refused ∙ ap (λ (l : List ℕ). any_refused empty_world (lines_of l) no_exception) (sym (all h));
-    }
-finished_runs ti to s0 s1 (Err stop) h0 h1 h2 read rest w1 w2 r1 fed took end few later done part cause =
-    let lines = lines_of_all to read rest empty_world w1 false r1 h0 h1 fed in
-    let tells = subst (λ (ls : List (List ℕ)). TellsPart to ls empty_world h0 h2) (sym lines)
-    (does_then_part to (ended_lines read) (lines_of rest) empty_world w1 false r1 h0 h1 h2 fed.does part) in
-    let all : IsTrue ti → s0.left ≡ read = λ h. took.bytes_left h ∙ ap (λ (l : List ℕ). read ++ l) (end h) ∙ append-nil read in
-    record {
-      out = λ h. subst (λ (l : List ℕ). TellsPart to (lines_of l) empty_world h0 h2) (sym (all h)) tells;
-      cause = output_stops ti to stop s0 s1 empty_world h0 h1 h2 (omega (arith, took.number.no_more, few)) later cause;
-    }
+met_then : (before now : Store) → AreMet (met_since before now) (count_of before) now
+met_then before now = λ k low. refl
 
 -- nothing is told on standard error
-pub finished_silent : (to : Bool) (r : Result Bool Stop) (h1 h2 : State) (lines : List (List ℕ)) (w1 w2 : World) (r1 : Bool)
-    → IfOk r (λ refused. Does to lines w1 w2 r1 refused h1 h2) → OnErr r (TellsPart to lines w1 h1 h2) → IsTrue to → h2.err ≡ h1.err
-finished_silent to (Ok refused) h1 h2 lines w1 w2 r1 done part h = done.err h
-finished_silent to (Err stop) h1 h2 lines w1 w2 r1 done part h = part.err h
+pub part_silent : (to : Bool) (lines : List (List ℕ)) (st0 st1 : Store) (h0 h1 : State) → DoesPart to lines st0 st1 h0 h1 → IsTrue to → h1.err ≡ h0.err
+part_silent to lines st0 st1 h0 h1 part told = (part.all (met_since st0 st1) (met_then st0 st1)).err told
 
--- a front of what the script tells was told, however it ends
-pub runs_part : (ti to : Bool) (s0 s1 : Supply) (r : Result Bool Stop) (h0 h1 : State) → Runs ti to s0 s1 r h0 h1 → IsTrue ti → IsTrue to
-    → (n : ℕ) × (h1.out ≡ h0.out ++ take n (told empty_world (lines_of s0.left) no_exception))
-runs_part ti to s0 s1 (Ok refused) h0 h1 runs h to_h = let all = told empty_world (lines_of s0.left) no_exception in
-    (length all, runs.out h to_h ∙ ap (λ (l : List ℕ). h0.out ++ l) (sym (take-length all)))
-runs_part ti to s0 s1 (Err stop) h0 h1 runs h to_h = (runs.out h).out to_h
+pub does_silent : (to : Bool) (lines : List (List ℕ)) (st0 st1 : Store) (r0 r1 : Bool) (h0 h1 : State) → Does to lines st0 st1 r0 r1 h0 h1 → IsTrue to → h1.err ≡ h0.err
+does_silent to lines st0 st1 r0 r1 h0 h1 does told = (does.all (met_since st0 st1) (met_then st0 st1)).err told
+
+-- where a run stops
+pub stopped_on : (ti to : Bool) (s0 s1 : Supply) (r : Result Bool Stop) (st0 st1 : Store) (h0 h1 : State) (stop : Stop) → r ≡ Err stop
+    → (IsTrue ti → DoesPart to (lines_of s0.left) st0 st1 h0 h1) → LineStops ti to stop s0 s1 st0 st1 h0 h1 → (IsTrue to → h1.err ≡ h0.err) → NoFewerFaults h0 h1
+    → RunsOn ti to s0 s1 r st0 st1 h0 h1
+stopped_on ti to s0 s1 r st0 st1 h0 h1 stop is part stops silent later = subst (λ (o : Result Bool Stop). RunsOn ti to s0 s1 o st0 st1 h0 h1) (sym is) (record {
+  ends = stops.cause;
+  sound = stops.sound;
+  tallies = λ h. (part h).counts;
+  runs = λ h told alone xs met. record {
+    answered = record { out = ((part h).all xs met).out told; by = stops.by h told xs met };
+    moments = ((part h).all xs met).moments told alone;
+  };
+  silent = silent;
+  later = later;
+})
+
+-- all bytes are read, with the lines that end in them, and the last
+lines_of_all : (to : Bool) (read rest : List ℕ) (st0 st1 : Store) (r0 r1 : Bool) (h0 h1 : State) → Fed to [] read rest st0 st1 r0 r1 h0 h1 → lines_of read ≡ ended_lines read ++ lines_of rest
+lines_of_all to read rest st0 st1 r0 r1 h0 h1 fed =
+    ap lines_of (sym (append-nil read)) ∙ fed.splits.lines [] ∙ ap (λ (l : List ℕ). ended_lines read ++ lines_of l) (append-nil rest)
+
+-- where its input ends and the last line is answered
+finished_ok : (ti to : Bool) (s0 s1 : Supply) (st0 st2 : Store) (refused : Bool) (h0 h2 : State)
+    → (IsTrue ti → Does to (lines_of s0.left) st0 st2 false refused h0 h2) → s1.taken ≤ s0.taken + 2 ^ 40 → (IsTrue ti → s1.left ≡ []) → s1.faults ≡ s0.faults
+    → SameFaults h0 h2 → IsReady to st2 h2 → (IsTrue to → h2.may_leave h2.folder) → (IsTrue to → h2.err ≡ h0.err) → RunsOn ti to s0 s1 (Ok refused) st0 st2 h0 h2
+finished_ok ti to s0 s1 st0 st2 refused h0 h2 does few end calm same ready now silent = record {
+  ends = record { few = few; ended = end; calm = calm; same = same };
+  sound = tt;
+  tallies = λ h. (does h).counts;
+  runs = λ h told alone xs met.
+      let done = (does h).all xs met in
+      let still = done.alone told alone in
+      record {
+        answered = record {
+          out = done.out told;
+          is_refused = done.refused;
+          rest = running_rests st2 h2 (ready.running told) still (now told);
+          settled = running_settled st2 h2 (ready.running told);
+          holds = subst (λ (w : World). Holds h2.folder w) done.world (running_holds st2 h2 (ready.running told) still h2.folder (now told));
+        };
+        moments = done.moments told alone;
+      };
+  silent = silent;
+  later = no_fewer_same h0 h2 same;
+}
+
+-- where its input ends, and the last line is answered or not
+pub finished_on : (ti to : Bool) (s0 s1 : Supply) (r : Result Bool Stop) (h0 h1 h2 : State) (read rest : List ℕ) (st0 st1 st2 : Store) (r1 : Bool)
+    → Fed to [] read rest st0 st1 false r1 h0 h1 → Took ti read s0 s1 → (IsTrue ti → s1.left ≡ []) → length read ≤ 2 ^ 40 → s1.faults ≡ s0.faults → SameFaults h0 h1
+    → IfOk r (λ refused. Does to (lines_of rest) st1 st2 r1 refused h1 h2) → OnErr r (DoesPart to (lines_of rest) st1 st2 h1 h2) → IfErr r (λ stop. IsLineStop stop h1 h2)
+    → OnOk r (SameFaults h1 h2) → OnOk r (IsReady to st2 h2) → NoFewerFaults h1 h2 → (IsTrue to → h2.may_leave h2.folder)
+    → RunsOn ti to s0 s1 r st0 st2 h0 h2
+finished_on ti to s0 s1 (Ok refused) h0 h1 h2 read rest st0 st1 st2 r1 fed took end few calm same done part cause same_then ready later now =
+    let lines = lines_of_all to read rest st0 st1 false r1 h0 h1 fed in
+    let does = subst (λ (ls : List (List ℕ)). Does to ls st0 st2 false refused h0 h2) (sym lines)
+    (does_more to (ended_lines read) (lines_of rest) st0 st1 st2 false r1 refused h0 h1 h2 fed.does done) in
+    let all : IsTrue ti → read ≡ s0.left = λ h. sym (took.bytes_left h ∙ ap (λ (l : List ℕ). read ++ l) (end h) ∙ append-nil read) in
+    finished_ok ti to s0 s1 st0 st2 refused h0 h2 (λ h. subst (λ (l : List ℕ). Does to (lines_of l) st0 st2 false refused h0 h2) (all h) does)
+    (omega (arith, took.number.no_more, few)) end calm (same_faults_more h0 h1 h2 same same_then) ready now (does_silent to (lines_of read) st0 st2 false refused h0 h2 does)
+finished_on ti to s0 s1 (Err stop) h0 h1 h2 read rest st0 st1 st2 r1 fed took end few calm same done part cause same_then ready later now =
+    let lines = lines_of_all to read rest st0 st1 false r1 h0 h1 fed in
+    let does = subst (λ (ls : List (List ℕ)). DoesPart to ls st0 st2 h0 h2) (sym lines)
+    (does_then_part to (ended_lines read) (lines_of rest) st0 st1 st2 false r1 h0 h1 h2 fed.does part) in
+    let all : IsTrue ti → read ≡ s0.left = λ h. sym (took.bytes_left h ∙ ap (λ (l : List ℕ). read ++ l) (end h) ∙ append-nil read) in
+    stopped_on ti to s0 s1 (Err stop) st0 st2 h0 h2 stop refl (λ h. subst (λ (l : List ℕ). DoesPart to (lines_of l) st0 st2 h0 h2) (all h) does)
+    (line_stops ti to stop s0 s1 st0 st2 h0 h1 h2 (omega (arith, took.number.no_more, few)) same cause)
+    (part_silent to (lines_of read) st0 st2 h0 h2 does) (no_fewer_more h0 h1 h2 (no_fewer_same h0 h1 same) later)
+
+-- on a fresh store, the exceptions are those that it hands out
+pub runs_from : (ti to : Bool) (s0 s1 : Supply) (r : Result Bool Stop) (met : List Met) (st0 st1 : Store) (h0 h1 : State)
+    → IsFresh st0 → met ≡ st1.tally.met → RunsOn ti to s0 s1 r st0 st1 h0 h1 → RunsFrom ti to s0 s1 r met st0 h0 h1
+runs_from ti to s0 s1 r met st0 st1 h0 h1 fresh met_is runs = record {
+  ends = runs.ends;
+  sound = runs.sound;
+  full = λ h.
+      let tallies = runs.tallies h in
+      let all : met ≡ tallies.added = met_is ∙ tallies.met_is ∙ ap (λ (ms : List Met). ms ++ tallies.added) fresh.met in
+      subst (λ (ms : List Met). All (IsFull (lines_of s0.left) 0 (pages_of st0)) ms) (sym all)
+      (subst (λ (n : ℕ). All (IsFull (lines_of s0.left) n (pages_of st0)) tallies.added) fresh.count tallies.full);
+  runs = λ h told alone. runs.runs h told alone (met_at met) (λ k low.
+      ap (λ (ms : List Met). met_at ms k) met_is ∙ ap (met_of st1) (sym (zero-add k) ∙ ap (λ (n : ℕ). n + k) (sym fresh.count)));
+  silent = runs.silent;
+  later = runs.later;
+}

@@ -1,13 +1,18 @@
--- How a run ends: what of the input was taken, what was told of it, and why it stopped.
-use Rattle.std.specs.Prelude.{◌≡◌, ◌⊎◌, ℕ, ◌+◌, ◌-◌, ◌^◌, ◌≤◌, min, Bool, IsTrue, ◌==◌, if◌then◌else◌, List, [], ◌∷◌, ◌++◌, take, length, codes, Result, Ok, Err, false, true}
+-- How a run ends: what of the input was taken, what was told of it, what a crash may leave, and why it stopped.
+use Rattle.std.specs.Prelude.{◌≡◌, ◌≢◌, ◌⊎◌, Option, Some, ℕ, ◌+◌, ◌-◌, ◌^◌, ◌≤◌, min, Bool, IsTrue, ◌==◌, if◌then◌else◌, List, [], ◌∷◌, ◌++◌, take, drop, length, codes, Result, Ok, Err, false, true}
 use Rattle.aria_host.specs.Count.{Rose}
-use Rattle.aria_host.specs.State.{State}
-use Rattle.aria_model.specs.World.{World, empty_world}
-use Rattle.aria_model.specs.Script.{lines_of, ended_lines, told, any_refused, no_exception}
+use Rattle.aria_host.specs.State.{Folder, State, LeavesOnly}
+use Rattle.aria_host.specs.Calls.{SameImages}
+use Rattle.aria_host.specs.declared.fault.Fault.{Fault}
+use Rattle.aria_host.specs.declared.fault.Fault.TheVariants as faults
+use Rattle.aria_model.specs.World.{World}
+use Rattle.aria_model.specs.Script.{Exceptions, lines_of, ended_lines, statements, world_after, after, told, any_refused, acknowledged}
+use Rattle.aria_engine.specs.Holds.{Holds, IsDamage, AtRest, IsSettled, AreLogAlone}
+use Rattle.aria_engine.specs.Store.{SameFaults}
+use Rattle.aria_engine.specs.Done.{Leaves}
 use Rattle.aria_tools.specs.declared.stop.Stop.{Stop}
-use Rattle.aria_tools.specs.declared.stop.Stop.TheVariants.{Memory, Disk, Input, Tell, TooLong}
-use Rattle.aria_tools.specs.Stops.{status_of}
-use Rattle.aria_tools.specs.Turns.{TellsPart}
+use Rattle.aria_tools.specs.declared.stop.Stop.TheVariants.{Memory, Disk, LogDamaged, NotOurs, Input, Tell, TooLong}
+use Rattle.aria_tools.specs.Stops.{status_of, damage_text, damage_of}
 
 -- a source as contracts see it: the bytes that are left, how many were taken, and how often it failed
 pub record Supply : Type 0 where
@@ -25,48 +30,83 @@ pub record Took (tells : Bool) (bytes : List ℕ) (before now : Supply) : Type 0
   pub bytes_left : IsTrue tells → before.left ≡ bytes ++ now.left
   pub number : Counts before.taken (length bytes) now.taken
 
--- The lines that LF ends in the bytes that were taken are answered.
-abbrev pub AnswersEnded : Bool → Supply → Supply → World → State → State → Type 0
-AnswersEnded tells supply supply_now world before now =
-    (taken : List ℕ) × (supply.left ≡ taken ++ supply_now.left)
-    × (IsTrue tells → now.out ≡ before.out ++ told world (ended_lines taken) no_exception)
-
--- So many bytes were taken as an input may have, and a further one; the lines that LF ends in the former are answered.
-abbrev pub AnswersFull : Bool → Supply → Supply → World → State → State → Type 0
-AnswersFull tells supply supply_now world before now =
-    (taken : List ℕ) × (further : ℕ) × (supply.left ≡ taken ++ further ∷ supply_now.left) × (length taken ≡ 2 ^ 40)
-    × (IsTrue tells → now.out ≡ before.out ++ told world (ended_lines taken) no_exception)
-
 -- no more bytes were taken than an input may have
 abbrev pub TookFew : Supply → Supply → Type 0
 TookFew before now = now.taken ≤ before.taken + 2 ^ 40
 
--- the cause of each reason to stop
-abbrev pub StopsBy : Bool → Bool → Stop → Supply → Supply → World → State → State → Type 0
-StopsBy tells told Memory supply supply_now world before now = TookFew supply supply_now
-StopsBy tells told Disk supply supply_now world before now = ⊥
-StopsBy tells told Tell supply supply_now world before now = TookFew supply supply_now × Rose before.tell_faults now.tell_faults
-StopsBy tells told Input supply supply_now world before now = TookFew supply supply_now × Rose supply.faults supply_now.faults
-    × (IsTrue tells → AnswersEnded told supply supply_now world before now)
-StopsBy tells told TooLong supply supply_now world before now = Counts supply.taken (2 ^ 40 + 1) supply_now.taken
-    × (IsTrue tells → AnswersFull told supply supply_now world before now)
+-- the folder is left as it was, with this damage
+abbrev pub IsFoundDamaged : Bool → Stop → State → State → Type 0
+IsFoundDamaged tells (LogDamaged file page) before now = IsTrue tells → IsDamage (faults.LogDamaged file page) before.folder × (now.folder ≡ before.folder)
+IsFoundDamaged tells (NotOurs file) before now = IsTrue tells → IsDamage (faults.NotOurs file) before.folder × (now.folder ≡ before.folder)
+IsFoundDamaged tells _ before now = ⊥
 
--- The whole input was read, and each of its lines is answered.
-pub record RunsAll (tells told_too : Bool) (supply supply_now : Supply) (refused : Bool) (before now : State) : Type 0 where
+-- the cause of each reason to stop
+abbrev pub StopsBy : Bool → Stop → Supply → Supply → State → State → Type 0
+StopsBy told Memory supply supply_now before now = TookFew supply supply_now
+StopsBy told Disk supply supply_now before now = TookFew supply supply_now × Rose before.disk_faults now.disk_faults
+StopsBy told (LogDamaged file page) supply supply_now before now = (supply_now ≡ supply) × IsFoundDamaged told (LogDamaged file page) before now
+StopsBy told (NotOurs file) supply supply_now before now = (supply_now ≡ supply) × IsFoundDamaged told (NotOurs file) before now
+StopsBy told Input supply supply_now before now = TookFew supply supply_now × Rose supply.faults supply_now.faults
+StopsBy told Tell supply supply_now before now = TookFew supply supply_now × Rose before.tell_faults now.tell_faults
+StopsBy told TooLong supply supply_now before now = Counts supply.taken (2 ^ 40 + 1) supply_now.taken
+
+-- The whole input was read, and no fault was counted.
+pub record ReadsAll (tells : Bool) (supply supply_now : Supply) (before now : State) : Type 0 where
   pub few : TookFew supply supply_now
   pub ended : IsTrue tells → supply_now.left ≡ []
-  pub out : IsTrue tells → IsTrue told_too → now.out ≡ before.out ++ told empty_world (lines_of supply.left) no_exception
-  pub is_refused : IsTrue tells → refused ≡ any_refused empty_world (lines_of supply.left) no_exception
+  pub calm : supply_now.faults ≡ supply.faults
+  pub same : SameFaults before now
 
--- A front of what the lines of the input tell was told, and there is a cause to stop.
-pub record RunsPart (tells told_too : Bool) (supply supply_now : Supply) (stop : Stop) (before now : State) : Type 0 where
-  pub out : IsTrue tells → TellsPart told_too (lines_of supply.left) empty_world before now
-  pub cause : StopsBy tells told_too stop supply supply_now empty_world before now
+-- how a run ends, which says whether a statement was refused, or why it stopped
+abbrev pub Ends : Bool → Bool → Supply → Supply → Result Bool Stop → State → State → Type 0
+Ends tells told_too supply supply_now (Ok refused) before now = ReadsAll tells supply supply_now before now
+Ends tells told_too supply supply_now (Err stop) before now = StopsBy told_too stop supply supply_now before now
 
--- what a run has done where it ends, which says whether a statement was refused, or why it stopped
-abbrev pub Runs : Bool → Bool → Supply → Supply → Result Bool Stop → State → State → Type 0
-Runs tells told_too supply supply_now (Ok refused) before now = RunsAll tells told_too supply supply_now refused before now
-Runs tells told_too supply supply_now (Err stop) before now = RunsPart tells told_too supply supply_now stop before now
+-- The lines that LF ends in the bytes that were taken are answered.
+abbrev pub AnswersEnded : Supply → Supply → World → Exceptions → State → State → Type 0
+AnswersEnded supply supply_now world exceptions before now =
+    (taken : List ℕ) × (supply.left ≡ taken ++ supply_now.left) × (now.out ≡ before.out ++ told world (ended_lines taken) exceptions)
+
+-- So many bytes were taken as an input may have, and a further one; the lines that LF ends in the former are answered.
+abbrev pub AnswersFull : Supply → Supply → World → Exceptions → State → State → Type 0
+AnswersFull supply supply_now world exceptions before now =
+    (taken : List ℕ) × (further : ℕ) × (supply.left ≡ taken ++ further ∷ supply_now.left) × (length taken ≡ 2 ^ 40)
+    × (now.out ≡ before.out ++ told world (ended_lines taken) exceptions)
+
+-- what is answered where a run stops for this reason
+abbrev pub AnswersBy : Stop → Supply → Supply → World → Exceptions → State → State → Type 0
+AnswersBy Input supply supply_now world exceptions before now = AnswersEnded supply supply_now world exceptions before now
+AnswersBy TooLong supply supply_now world exceptions before now = AnswersFull supply supply_now world exceptions before now
+AnswersBy _ supply supply_now world exceptions before now = Unit {0}
+
+-- Each line of the input is answered; the folder is at rest and holds the tables after all of them.
+pub record AnswersAll (supply : Supply) (world : World) (exceptions : Exceptions) (refused : Bool) (before now : State) : Type 0 where
+  pub out : now.out ≡ before.out ++ told world (lines_of supply.left) exceptions
+  pub is_refused : refused ≡ any_refused world (lines_of supply.left) exceptions
+  pub rest : AtRest now
+  pub settled : IsSettled now.folder
+  pub holds : Holds now.folder (world_after world (statements (lines_of supply.left)) exceptions)
+
+-- A front of what the lines of the input tell was told.
+pub record AnswersPart (supply supply_now : Supply) (world : World) (exceptions : Exceptions) (stop : Stop) (before now : State) : Type 0 where
+  pub out : (n : ℕ) × (now.out ≡ before.out ++ take n (told world (lines_of supply.left) exceptions))
+  pub by : AnswersBy stop supply supply_now world exceptions before now
+
+-- what a run has answered where it ends
+abbrev pub Answered : Supply → Supply → World → Exceptions → Result Bool Stop → State → State → Type 0
+Answered supply supply_now world exceptions (Ok refused) before now = AnswersAll supply world exceptions refused before now
+Answered supply supply_now world exceptions (Err stop) before now = AnswersPart supply supply_now world exceptions stop before now
+
+-- A run on these tables, in which these exceptions were met: what it has answered, and what a crash at any moment may have left.
+pub record Runs (supply supply_now : Supply) (world : World) (exceptions : Exceptions) (result : Result Bool Stop) (before now : State) : Type 0 where
+  pub answered : Answered supply supply_now world exceptions result before now
+  pub moments : LeavesOnly before now (Leaves world (lines_of supply.left) exceptions before.out)
+
+-- A crash leaves the tables after the first so many of the statements, no fewer than are acknowledged in what was told since.
+pub record Prefix (world : World) (lines : List (List ℕ)) (exceptions : Exceptions) (out : List ℕ) (c : Folder) (b : List ℕ) : Type 0 where
+  pub count : ℕ
+  pub acked : acknowledged (drop (length out) b) ≤ count
+  pub holds : Holds c (after world lines exceptions count)
 
 -- the status of a run
 abbrev pub status_of_run : Result Bool Stop → ℕ
@@ -76,18 +116,44 @@ status_of_run (Err stop) = status_of stop
 
 -- the statuses that the program ends with
 abbrev pub IsStatus : ℕ → Type 0
-IsStatus status = (status ≤ 3) ⊎ ((6 ≤ status) × (status ≤ 8))
+IsStatus status = status ≤ 8
 
--- the line on standard error for a status
-abbrev pub error_text : ℕ → List ℕ
-error_text status =
+-- the line on standard error for a status, but for 5
+abbrev pub status_text : ℕ → List ℕ
+status_text status =
     if status == 2 then codes "aria: bad words\n" else
     if status == 3 then codes "aria: want of memory\n" else
+    if status == 4 then codes "aria: disk fault\n" else
     if status == 6 then codes "aria: input fault\n" else
     if status == 8 then codes "aria: input too long\n" else []
 
+-- the line on standard error for a status; at 5 it names the damage of the folder
+abbrev pub IsStatusText : ℕ → Folder → List ℕ → Type 0
+IsStatusText status folder text =
+    ((status ≢ 5) × (text ≡ status_text status)) ⊎ ((status ≡ 5) × (fault : Fault) × IsDamage fault folder × (text ≡ damage_text fault))
+
+-- A text was told on standard error, or a front of it where telling failed.
+abbrev pub TellsText : List ℕ → State → State → Type 0
+TellsText text before now =
+    (now.err ≡ before.err ++ text) ⊎ (Rose before.tell_faults now.tell_faults × (n : ℕ) × (now.err ≡ before.err ++ take n text))
+
 -- On standard error the status's line was told, or a front of it where telling failed.
 abbrev pub TellsStatus : ℕ → State → State → Type 0
-TellsStatus status before now =
-    (now.err ≡ before.err ++ error_text status)
-    ⊎ (Rose before.tell_faults now.tell_faults × (n : ℕ) × (now.err ≡ before.err ++ take n (error_text status)))
+TellsStatus status before now = (text : List ℕ) × IsStatusText status before.folder text × TellsText text before now
+
+-- Nothing changed but what was told on standard error.
+pub record TellsErr (before now : State) : Type 0 where
+  pub folder : now.folder ≡ before.folder
+  pub images : SameImages before now
+  pub out : now.out ≡ before.out
+  pub later : before.moment ≤ now.moment
+  pub moments : (t : ℕ) (c : Folder) (b : List ℕ) → t ≤ before.moment → now.since t c b → before.since t c b ⊎ (before.may_leave c × (b ≡ before.out))
+
+-- the status of an ended run; without memory for the line that names a damage it is that of want of memory
+abbrev pub IsEnd : Result Bool Stop → ℕ → Type 0
+IsEnd result status = (status ≡ status_of_run result) ⊎ ((status ≡ 3) × (status_of_run result ≡ 5))
+
+-- the line on standard error of an ended run
+abbrev pub IsEndText : Result Bool Stop → ℕ → List ℕ → Type 0
+IsEndText result status text =
+    ((status ≢ 5) × (text ≡ status_text status)) ⊎ ((stop : Stop) × (fault : Fault) × (result ≡ Err stop) × (damage_of stop ≡ Some fault) × (status ≡ 5) × (text ≡ damage_text fault))

@@ -1,6 +1,6 @@
 pub mod Words
-pub mod Turns
 pub mod Held
 pub mod Stops
 pub mod Endings
 pub mod Pieces
+pub mod Sessions

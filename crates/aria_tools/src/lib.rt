@@ -4,8 +4,8 @@
 //! command is `run`, which executes the script that it reads from the input.
 #![tactic(auto)]
 
-mod answer;
 mod command;
+mod ending;
 mod reading;
 mod session;
 mod stop;

@@ -1,18 +1,26 @@
 //! Reads a script in pieces and runs it.
 
-ghost use Rattle.std.specs.Prelude.{◌≡◌, ◌↔◌, ◌+◌, ◌-◌, ◌^◌, ◌<◌, ◌≤◌, min, ℕ, [], ◌∷◌, ◌++◌, List, false, length, take, IsTrue, IfOk, IfErr, OnOk, OnErr};
+ghost use Rattle.std.specs.Prelude.{◌≡◌, ◌↔◌, ◌+◌, ◌-◌, ◌^◌, ◌<◌, ◌≤◌, min, ℕ, [], ◌∷◌, ◌++◌, List, false, length, take, All, IsTrue, IfOk, IfErr, OnOk, OnErr};
 ghost use Rattle.aria_host.specs.Count.{Rose};
-ghost use Rattle.aria_memory.specs.Worlds.{world_of};
-ghost use Rattle.aria_model.specs.Script.{ended_lines, lines_of};
-ghost use Rattle.aria_model.specs.World.{empty_world};
-ghost use Rattle.aria_tools.specs.Endings.{Runs, StopsBy, Took};
+ghost use Rattle.aria_host.specs.Folder.{page_count};
+ghost use Rattle.aria_log.specs.Log.{log_file};
+ghost use Rattle.aria_model.specs.World.{World};
+ghost use Rattle.aria_model.specs.Script.{lines_of};
+ghost use Rattle.aria_model.specs.Journal.{met_at};
+ghost use Rattle.aria_engine.specs.Holds.{EachHolds};
+ghost use Rattle.aria_engine.specs.Store.{NoFewerFaults, SameFaults, IsFresh};
+ghost use Rattle.aria_engine.specs.Done.{DoesPart, IsFull};
+ghost use Rattle.aria_tools.specs.Endings.{Ends, Runs, Took};
 ghost use Rattle.aria_tools.specs.Held.{clipped, Splits};
-ghost use Rattle.aria_tools.specs.Pieces.{Fed, TakesPiece, NoPiece, supply};
-ghost use Rattle.aria_tools.specs.Turns.{Does, TellsPart};
+ghost use Rattle.aria_tools.specs.Pieces.{Fed, IsReady, TakesPiece, NoPiece, supply};
+ghost use Rattle.aria_tools.specs.Sessions.{LineStops, RunsOn, RunsFrom};
 
 use crate::session::Session;
 use crate::stop::Stop;
+use aria_engine::Store;
 use aria_host::{Host, Source};
+use aria_model::Met;
+use aria_page::List as Seq;
 use std::alloc::Global;
 
 /// The most bytes of a script.
@@ -20,6 +28,13 @@ const MAX_INPUT_BYTES: u64 = 1 << 40;
 
 /// How many bytes are asked for at once.
 const PIECE_BYTES: usize = 65_536;
+
+/// What a run came to: whether a statement was refused, or why it stopped, and the exceptions that its statements met.
+#[derive(Drop)]
+pub struct Ran {
+    pub outcome: Result<bool, Stop>,
+    pub met: Seq<Met>,
+}
 
 // Takes the next bytes, of which so many were taken before; past the most that there may be, one byte is a test.
 fn read_piece<S: Source>(input: &mut S, taken: u64, piece: &mut [u8]) -> Result<usize, Stop>
@@ -49,17 +64,21 @@ fn read_script<H: Host, S: Source>(
 ) -> Result<(), Stop>
     requires fresh { session.old.held.items ≡ [] }
     requires room { 0 < length piece.old }
+    requires ready { IsReady H.tells session.old.store (H.state host.old) }
+    ensures ready { OnOk result (IsReady H.tells session.new.store (H.state host.new)) }
     ensures done { OnOk result ((read : List ℕ) × (rest : List ℕ) × (length read ≤ 2 ^ 40)
         × Took S.tells read (supply (S.left input.old) (S.taken input.old) (S.faults input.old)) (supply (S.left input.new) (S.taken input.new) (S.faults input.new))
         × (IsTrue S.tells → S.left input.new ≡ [])
         × (session.new.held.items ≡ clipped rest)
-        × Fed H.tells [] read rest (world_of session.old.tables) (world_of session.new.tables) session.old.refused session.new.refused (H.state host.old) (H.state host.new)) }
-    ensures part { OnErr result (IsTrue S.tells → TellsPart H.tells (lines_of (S.left input.old)) (world_of session.old.tables) (H.state host.old) (H.state host.new)) }
-    ensures cause { IfErr result (λ stop. StopsBy S.tells H.tells stop
+        × Fed H.tells [] read rest session.old.store session.new.store session.old.refused session.new.refused (H.state host.old) (H.state host.new)) }
+    ensures part { OnErr result (IsTrue S.tells → DoesPart H.tells (lines_of (S.left input.old)) session.old.store session.new.store (H.state host.old) (H.state host.new)) }
+    ensures cause { IfErr result (λ stop. LineStops S.tells H.tells stop
         (supply (S.left input.old) (S.taken input.old) (S.faults input.old)) (supply (S.left input.new) (S.taken input.new) (S.faults input.new))
-        (world_of session.old.tables) (H.state host.old) (H.state host.new)) }
+        session.old.store session.new.store (H.state host.old) (H.state host.new)) }
     ensures silent { IsTrue H.tells → (H.state host.new).err ≡ (H.state host.old).err }
-    ensures later { (H.state host.old).tell_faults ≤ (H.state host.new).tell_faults }
+    ensures calm { OnOk result (SameFaults (H.state host.old) (H.state host.new)) }
+    ensures calm_too { OnOk result (S.faults input.new ≡ S.faults input.old) }
+    ensures later { NoFewerFaults (H.state host.old) (H.state host.new) }
 {
     let mut taken = 0;
     'pieces: loop {
@@ -72,17 +91,61 @@ fn read_script<H: Host, S: Source>(
     }
 }
 
-/// Runs the script that the input has left on tables that begin empty, tells what it tells, and says whether a
-/// statement was refused.
-pub fn run<H: Host, S: Source>(alloc: Global, host: &mut H, input: &mut S) -> Result<bool, Stop>
-    ensures runs { Runs S.tells H.tells
+// Runs the script that the input has left, tells what it tells, and says whether a statement was refused.
+fn run_session<H: Host, S: Source>(
+    alloc: Global,
+    host: &mut H,
+    input: &mut S,
+    session: &mut Session,
+) -> Result<bool, Stop>
+    requires fresh { session.old.held.items ≡ [] }
+    requires refused { session.old.refused ≡ false }
+    requires ready { IsReady H.tells session.old.store (H.state host.old) }
+    ensures runs { RunsOn S.tells H.tells
         (supply (S.left input.old) (S.taken input.old) (S.faults input.old)) (supply (S.left input.new) (S.taken input.new) (S.faults input.new))
-        result (H.state host.old) (H.state host.new) }
-    ensures silent { IsTrue H.tells → (H.state host.new).err ≡ (H.state host.old).err }
-    ensures later { (H.state host.old).tell_faults ≤ (H.state host.new).tell_faults }
+        result session.old.store session.new.store (H.state host.old) (H.state host.new) }
 {
-    let mut session = Session::new(alloc);
     let mut piece = vec![in alloc; 0; PIECE_BYTES]?;
-    read_script(alloc, host, input, &mut session, &mut piece)?;
+    read_script(alloc, host, input, session, &mut piece)?;
     session.finish(alloc, host)
+}
+
+// Runs the script that the input has left on an opened store.
+fn run_store<H: Host, S: Source>(
+    alloc: Global,
+    host: &mut H,
+    input: &mut S,
+    store: Store,
+) -> Ran
+    requires fresh { IsFresh store }
+    requires ready { IsReady H.tells store (H.state host.old) }
+    ensures runs { RunsFrom S.tells H.tells
+        (supply (S.left input.old) (S.taken input.old) (S.faults input.old)) (supply (S.left input.new) (S.taken input.new) (S.faults input.new))
+        result.outcome result.met store (H.state host.old) (H.state host.new) }
+{
+    let mut session = Session::new(alloc, store);
+    let outcome = run_session(alloc, host, input, &mut session);
+    let met = session.take_met(alloc);
+    Ran { outcome, met }
+}
+
+/// Opens the store of the folder, and runs the script that the input has left on it.
+pub fn run<H: Host, S: Source>(alloc: Global, host: &mut H, input: &mut S) -> Ran
+    ensures ends { Ends S.tells H.tells
+        (supply (S.left input.old) (S.taken input.old) (S.faults input.old)) (supply (S.left input.new) (S.taken input.new) (S.faults input.new))
+        result.outcome (H.state host.old) (H.state host.new) }
+    ensures runs { IsTrue S.tells → IsTrue H.tells → (world : World) → EachHolds (H.state host.old) world → Runs
+        (supply (S.left input.old) (S.taken input.old) (S.faults input.old)) (supply (S.left input.new) (S.taken input.new) (S.faults input.new))
+        world (met_at result.met) result.outcome (H.state host.old) (H.state host.new) }
+    ensures full { IsTrue S.tells → IsTrue H.tells → All (IsFull (lines_of (S.left input.old)) 0 (page_count log_file (H.state host.old).folder)) result.met }
+    ensures silent { IsTrue H.tells → (H.state host.new).err ≡ (H.state host.old).err }
+    ensures later { NoFewerFaults (H.state host.old) (H.state host.new) }
+{
+    match Store::open(alloc, host) {
+        Ok(store) => run_store(alloc, host, input, store),
+        Err(fault) => Ran {
+            outcome: Err(Stop::from(fault)),
+            met: Seq::new(alloc),
+        },
+    }
 }

@@ -1,54 +1,31 @@
-//! A run's tables, and the line of its script that hasn't ended yet.
+//! A run's store, and the line of its script that hasn't ended yet.
 
-ghost use Rattle.std.specs.Prelude.{◌≡◌, ◌≤◌, ℕ, [], ◌∷◌, ◌++◌, false, List, IfOk, IfErr, OnOk, OnErr, MatchOption};
+ghost use Rattle.std.specs.Prelude.{◌≡◌, ℕ, [], ◌∷◌, ◌++◌, false, List, IfOk, IfErr, OnOk, OnErr, MatchOption};
 ghost use Rattle.std.specs.List.{list_any};
-ghost use Rattle.aria_memory.specs.Worlds.{world_of};
-ghost use Rattle.aria_model.specs.World.{empty_world};
 ghost use Rattle.aria_model.specs.Script.{ended_lines, lines_of};
-ghost use Rattle.aria_tools.specs.Turns.{Does, TellsPart};
-ghost use Rattle.aria_tools.specs.Stops.{IsOutputStop};
+ghost use Rattle.aria_engine.specs.Store.{SameFaults, NoFewerFaults};
+ghost use Rattle.aria_engine.specs.Done.{Does, DoesPart};
+ghost use Rattle.aria_tools.specs.Pieces.{IsReady};
+ghost use Rattle.aria_tools.specs.Stops.{IsLineStop};
 ghost use Rattle.aria_tools.specs.Held.{clipped, is_lf, CutsLine, Splits};
 
-use crate::answer::answer;
 use crate::stop::Stop;
-use aria_host::{Host, Stream};
-use aria_memory::Tables;
-use aria_model::MAX_LINE_BYTES;
-use aria_page::Bytes;
+use aria_engine::Store;
+use aria_host::Host;
+use aria_model::{MAX_LINE_BYTES, Met};
+use aria_page::List as Seq;
 use memchr::memchr;
 use std::alloc::{AllocError, Global};
 
 // Of a line past the limit so much is kept as tells that it is too long.
 const HELD_BYTES: usize = MAX_LINE_BYTES + 1;
 
-/// A run's tables, the front of the line that hasn't ended, and whether a statement was refused.
+/// A run's store, the front of the line that hasn't ended, and whether a statement was refused.
 #[derive(Drop)]
 pub struct Session {
-    tables: Tables,
+    store: Store,
     held: Vec<u8>,
-    text: Bytes,
     refused: bool,
-}
-
-// Answers a line, tells the answer, and says whether the line was refused.
-fn turn<H: Host>(
-    alloc: Global,
-    host: &mut H,
-    tables: &mut Tables,
-    text: &mut Bytes,
-    line: &[u8],
-) -> Result<bool, Stop>
-    ensures done { IfOk result (λ refused. Does H.tells (line.now ∷ []) (world_of tables.old) (world_of tables.new) false refused (H.state host.old) (H.state host.new)) }
-    ensures part { OnErr result (TellsPart H.tells (line.now ∷ []) (world_of tables.old) (H.state host.old) (H.state host.new)) }
-    ensures cause { IfErr result (λ stop. IsOutputStop stop (H.state host.old) (H.state host.new)) }
-    ensures later { (H.state host.old).tell_faults ≤ (H.state host.new).tell_faults }
-{
-    text.clear();
-    let refused = answer(alloc, tables, line, text)?;
-    if text.len() > 0 {
-        host.tell(Stream::Out, text.as_slice())?;
-    }
-    Ok(refused)
 }
 
 // Adds bytes to a held line, as far as it is kept.
@@ -69,51 +46,57 @@ fn cut_line(bytes: &[u8]) -> Option<(&[u8], &[u8])>
 
 impl Session {
     /// A session before its first line.
-    pub fn new(alloc: Global) -> Session
-        ensures tables { world_of result.tables ≡ empty_world }
+    pub fn new(alloc: Global, store: Store) -> Session
+        ensures store { result.store ≡ store }
         ensures held { result.held.items ≡ [] }
         ensures refused { result.refused ≡ false }
     {
         Session {
-            tables: Tables::new(alloc),
+            store,
             held: Vec::new(alloc),
-            text: Bytes::new(alloc),
             refused: false,
         }
     }
 
+    /// The exceptions that its statements met.
+    pub fn take_met(&mut self, alloc: Global) -> Seq<Met>
+        ensures { result ≡ self.old.store.tally.met }
+    {
+        self.store.take_met(alloc)
+    }
+
     /// Answers the held line with these bytes at its end.
     fn end_line<H: Host>(&mut self, alloc: Global, host: &mut H, bytes: &[u8]) -> Result<(), Stop>
+        requires ready { IsReady H.tells self.old.store (H.state host.old) }
+        ensures ready { OnOk result (IsReady H.tells self.new.store (H.state host.new)) }
         ensures done { OnOk result ((rest : List ℕ) → self.old.held.items ≡ clipped rest →
-            Does H.tells ((rest ++ bytes.now) ∷ []) (world_of self.old.tables) (world_of self.new.tables) self.old.refused self.new.refused (H.state host.old) (H.state host.new)) }
+            Does H.tells ((rest ++ bytes.now) ∷ []) self.old.store self.new.store self.old.refused self.new.refused (H.state host.old) (H.state host.new)) }
         ensures emptied { OnOk result (self.new.held.items ≡ []) }
         ensures part { OnErr result ((rest : List ℕ) → self.old.held.items ≡ clipped rest →
-            TellsPart H.tells ((rest ++ bytes.now) ∷ []) (world_of self.old.tables) (H.state host.old) (H.state host.new)) }
-        ensures cause { IfErr result (λ stop. IsOutputStop stop (H.state host.old) (H.state host.new)) }
-        ensures later { (H.state host.old).tell_faults ≤ (H.state host.new).tell_faults }
+            DoesPart H.tells ((rest ++ bytes.now) ∷ []) self.old.store self.new.store (H.state host.old) (H.state host.new)) }
+        ensures cause { IfErr result (λ stop. IsLineStop stop (H.state host.old) (H.state host.new)) }
+        ensures calm { OnOk result (SameFaults (H.state host.old) (H.state host.new)) }
+        ensures later { NoFewerFaults (H.state host.old) (H.state host.new) }
     {
         hold(&mut self.held, bytes)?;
-        let refused = turn(
-            alloc,
-            host,
-            &mut self.tables,
-            &mut self.text,
-            self.held.as_slice(),
-        )?;
-        self.refused |= refused;
+        let outcome = self.store.execute(alloc, host, self.held.as_slice())?;
+        self.refused |= outcome.is_refused();
         self.held.clear();
         Ok(())
     }
 
     /// Answers each line that ends in the piece, and holds what is behind the last of them.
     pub fn feed<H: Host>(&mut self, alloc: Global, host: &mut H, piece: &[u8]) -> Result<(), Stop>
+        requires ready { IsReady H.tells self.old.store (H.state host.old) }
+        ensures ready { OnOk result (IsReady H.tells self.new.store (H.state host.new)) }
         ensures done { OnOk result ((rest : List ℕ) → list_any is_lf rest ≡ false → self.old.held.items ≡ clipped rest → (held : List ℕ) ×
             Splits (rest ++ piece.now) held × (self.new.held.items ≡ clipped held) ×
-            Does H.tells (ended_lines (rest ++ piece.now)) (world_of self.old.tables) (world_of self.new.tables) self.old.refused self.new.refused (H.state host.old) (H.state host.new)) }
+            Does H.tells (ended_lines (rest ++ piece.now)) self.old.store self.new.store self.old.refused self.new.refused (H.state host.old) (H.state host.new)) }
         ensures part { OnErr result ((rest : List ℕ) → list_any is_lf rest ≡ false → self.old.held.items ≡ clipped rest →
-            TellsPart H.tells (ended_lines (rest ++ piece.now)) (world_of self.old.tables) (H.state host.old) (H.state host.new)) }
-        ensures cause { IfErr result (λ stop. IsOutputStop stop (H.state host.old) (H.state host.new)) }
-        ensures later { (H.state host.old).tell_faults ≤ (H.state host.new).tell_faults }
+            DoesPart H.tells (ended_lines (rest ++ piece.now)) self.old.store self.new.store (H.state host.old) (H.state host.new)) }
+        ensures cause { IfErr result (λ stop. IsLineStop stop (H.state host.old) (H.state host.new)) }
+        ensures calm { OnOk result (SameFaults (H.state host.old) (H.state host.new)) }
+        ensures later { NoFewerFaults (H.state host.old) (H.state host.new) }
     {
         let mut left = piece;
         while let Some((line, behind)) = cut_line(left) {
@@ -126,12 +109,15 @@ impl Session {
 
     /// Answers the last line, which no LF ends, unless it is empty, and says whether a statement was refused.
     pub fn finish<H: Host>(&mut self, alloc: Global, host: &mut H) -> Result<bool, Stop>
+        requires ready { IsReady H.tells self.old.store (H.state host.old) }
+        ensures ready { OnOk result (IsReady H.tells self.new.store (H.state host.new)) }
         ensures done { IfOk result (λ refused. (rest : List ℕ) → list_any is_lf rest ≡ false → self.old.held.items ≡ clipped rest →
-            Does H.tells (lines_of rest) (world_of self.old.tables) (world_of self.new.tables) self.old.refused refused (H.state host.old) (H.state host.new)) }
+            Does H.tells (lines_of rest) self.old.store self.new.store self.old.refused refused (H.state host.old) (H.state host.new)) }
         ensures part { OnErr result ((rest : List ℕ) → list_any is_lf rest ≡ false → self.old.held.items ≡ clipped rest →
-            TellsPart H.tells (lines_of rest) (world_of self.old.tables) (H.state host.old) (H.state host.new)) }
-        ensures cause { IfErr result (λ stop. IsOutputStop stop (H.state host.old) (H.state host.new)) }
-        ensures later { (H.state host.old).tell_faults ≤ (H.state host.new).tell_faults }
+            DoesPart H.tells (lines_of rest) self.old.store self.new.store (H.state host.old) (H.state host.new)) }
+        ensures cause { IfErr result (λ stop. IsLineStop stop (H.state host.old) (H.state host.new)) }
+        ensures calm { OnOk result (SameFaults (H.state host.old) (H.state host.new)) }
+        ensures later { NoFewerFaults (H.state host.old) (H.state host.new) }
     {
         if self.held.as_slice().is_empty() {
             return Ok(self.refused);

@@ -4,7 +4,7 @@ ghost use Rattle.std.specs.Prelude.{◌≡◌, alloc_error};
 ghost use Rattle.aria_tools.specs.declared.stop.Stop.TheVariants as stops;
 ghost use Rattle.aria_tools.specs.Stops.{status_of, stop_of};
 
-use aria_host::Fault;
+use aria_host::{Fault, FileName};
 use std::alloc::{AllocError, AllocFailed};
 
 /// Why a run ends before its input does.
@@ -12,6 +12,10 @@ use std::alloc::{AllocError, AllocFailed};
 pub enum Stop {
     Memory,
     Disk,
+    /// The log is damaged at this page of the file of this number.
+    LogDamaged { file: u32, page: u32 },
+    /// A file is there that isn't the program's.
+    NotOurs { file: FileName },
     Input,
     Tell,
     TooLong,
@@ -19,12 +23,13 @@ pub enum Stop {
 
 impl Stop {
     /// The status that the program ends with.
-    pub fn status(self) -> u8
-        ensures { result ≡ status_of self }
+    pub fn status(&self) -> u8
+        ensures { result ≡ status_of self.now }
     {
         match self {
             Stop::Memory => 3,
             Stop::Disk => 4,
+            Stop::LogDamaged { .. } | Stop::NotOurs { .. } => 5,
             Stop::Input => 6,
             Stop::Tell => 7,
             Stop::TooLong => 8,
@@ -55,6 +60,8 @@ impl From<Fault> for Stop {
         match fault {
             Fault::Memory(_) => Stop::Memory,
             Fault::Disk => Stop::Disk,
+            Fault::LogDamaged { file, page } => Stop::LogDamaged { file, page },
+            Fault::NotOurs { file } => Stop::NotOurs { file },
             Fault::Input => Stop::Input,
             Fault::Tell => Stop::Tell,
         }

@@ -1,12 +1,73 @@
-use Rattle.std.proofs.Common.{◌∙◌}
+use Rattle.std.proofs.Common.{◌∙◌, sym, subst}
+use Rattle.aria_host.specs.Folder.{Folder}
+use Rattle.aria_model.specs.Script.{lines_of, statements, world_after}
+use Rattle.aria_model.specs.Journal.{met_at}
+use Rattle.aria_engine.specs.Holds.{Holds}
+use Rattle.aria_engine.specs.Done.{Leaves}
+use Rattle.aria_host.proofs.Moments.{weakened}
+use Rattle.aria_tools.specs.Endings.{Prefix}
 use Rattle.aria_tools.specs.Pieces.{supply}
-use Rattle.aria_tools.proofs.Runs.{runs_part}
+use Rattle.aria_tools.proofs.Commands.{leaves_prefix, moments_after, refused_is, all_answered, ended_ok, ended_answered, full_answered, front_told, text_is, text_after}
 use Rattle.aria_tools.proofs.command.aria.Goals as goal
 
+pub returns-clause-any_moment : goal.returns-clause-any_moment
+returns-clause-any_moment g c to ti world each =
+    let old = g.H.Host.state c.args.host.now in
+    let mid = g.H.Host.state c.run-ran.new.host in
+    let now = g.H.Host.state c.end.new.host in
+    let lines = lines_of (g.S.Source.left c.args.input.now) in
+    moments_after (Prefix world lines (met_at c.run-ran.result.met) old.out) old mid now
+    (λ f low leaves. g.met.H.Host.counts_now c.run-ran.new.host old.moment f to low leaves)
+    (weakened old mid (Leaves world lines (met_at c.run-ran.result.met) old.out) (Prefix world lines (met_at c.run-ran.result.met) old.out)
+    (c.run-ran.ensures.runs ti to world each).moments (leaves_prefix world lines (met_at c.run-ran.result.met) old.out))
+    (c.end.ensures.only to)
+
+pub returns-clause-done_refused : goal.returns-clause-done_refused
+returns-clause-done_refused g c low ti to world each =
+    refused_is (supply (g.S.Source.left c.args.input.now) (g.S.Source.taken c.args.input.now) (g.S.Source.faults c.args.input.now))
+    (supply (g.S.Source.left c.run-ran.new.input) (g.S.Source.taken c.run-ran.new.input) (g.S.Source.faults c.run-ran.new.input))
+    world (met_at c.run-ran.result.met) c.run-ran.result.outcome c.end.result (g.H.Host.state c.args.host.now) (g.H.Host.state c.run-ran.new.host)
+    c.end.ensures.status low (c.run-ran.ensures.runs ti to world each)
+
+pub returns-clause-done_holds : goal.returns-clause-done_holds
+returns-clause-done_holds g c low ti to world each =
+    let ok = ended_ok c.run-ran.result.outcome c.end.result c.end.ensures.status low in
+    let all = all_answered (supply (g.S.Source.left c.args.input.now) (g.S.Source.taken c.args.input.now) (g.S.Source.faults c.args.input.now))
+    (supply (g.S.Source.left c.run-ran.new.input) (g.S.Source.taken c.run-ran.new.input) (g.S.Source.faults c.run-ran.new.input))
+    world (met_at c.run-ran.result.met) c.run-ran.result.outcome ok.0 (g.H.Host.state c.args.host.now) (g.H.Host.state c.run-ran.new.host) ok.1 (c.run-ran.ensures.runs ti to world each) in
+    let same = (c.end.ensures.only to).folder in
+    subst (λ (f : Folder). Holds f (world_after world (statements (lines_of (g.S.Source.left c.args.input.now))) (met_at c.run-ran.result.met))) (sym same) all.holds
+
+pub returns-clause-input_fault_told : goal.returns-clause-input_fault_told
+returns-clause-input_fault_told g c six ti to world each =
+    ended_answered (supply (g.S.Source.left c.args.input.now) (g.S.Source.taken c.args.input.now) (g.S.Source.faults c.args.input.now))
+    (supply (g.S.Source.left c.run-ran.new.input) (g.S.Source.taken c.run-ran.new.input) (g.S.Source.faults c.run-ran.new.input))
+    world (met_at c.run-ran.result.met) c.run-ran.result.outcome c.end.result (g.H.Host.state c.args.host.now) (g.H.Host.state c.run-ran.new.host) (g.H.Host.state c.end.new.host)
+    c.end.ensures.status six (c.run-ran.ensures.runs ti to world each) (c.end.ensures.only to).out
+
+pub returns-clause-too_long_told : goal.returns-clause-too_long_told
+returns-clause-too_long_told g c eight ti to world each =
+    full_answered (supply (g.S.Source.left c.args.input.now) (g.S.Source.taken c.args.input.now) (g.S.Source.faults c.args.input.now))
+    (supply (g.S.Source.left c.run-ran.new.input) (g.S.Source.taken c.run-ran.new.input) (g.S.Source.faults c.run-ran.new.input))
+    world (met_at c.run-ran.result.met) c.run-ran.result.outcome c.end.result (g.H.Host.state c.args.host.now) (g.H.Host.state c.run-ran.new.host) (g.H.Host.state c.end.new.host)
+    c.end.ensures.status eight (c.run-ran.ensures.runs ti to world each) (c.end.ensures.only to).out
+
+pub returns-clause-error_text : goal.returns-clause-error_text
+returns-clause-error_text g c to =
+    let old = g.H.Host.state c.args.host.now in
+    let mid = g.H.Host.state c.run-ran.new.host in
+    let now = g.H.Host.state c.end.new.host in
+    let told = c.end.ensures.told to in (
+      told.0,
+      text_is g.S.Source.tells g.H.Host.tells (supply (g.S.Source.left c.args.input.now) (g.S.Source.taken c.args.input.now) (g.S.Source.faults c.args.input.now))
+      (supply (g.S.Source.left c.run-ran.new.input) (g.S.Source.taken c.run-ran.new.input) (g.S.Source.faults c.run-ran.new.input))
+      c.run-ran.result.outcome c.end.result told.0 old mid c.run-ran.ensures.ends to told.1,
+      text_after told.0 old mid now (c.run-ran.ensures.silent to) c.run-ran.ensures.later.tell told.2,
+    )
+
 pub returns-clause-part_told : goal.returns-clause-part_told
-returns-clause-part_told g c not_2 tells told =
-    let part = runs_part g.S.Source.tells g.H.Host.tells
-    (supply (g.S.Source.left c.args.input.now) (g.S.Source.taken c.args.input.now) (g.S.Source.faults c.args.input.now))
-    (supply (g.S.Source.left c.run-outcome.new.input) (g.S.Source.taken c.run-outcome.new.input) (g.S.Source.faults c.run-outcome.new.input))
-    c.run-outcome.result (g.H.Host.state c.args.host.now) (g.H.Host.state c.run-outcome.new.host) c.run-outcome.ensures.runs tells told in
-    (part.0, c.end_with-2.ensures.out told ∙ part.1)
+returns-clause-part_told g c not_2 ti to world each =
+    let front = front_told (supply (g.S.Source.left c.args.input.now) (g.S.Source.taken c.args.input.now) (g.S.Source.faults c.args.input.now))
+    (supply (g.S.Source.left c.run-ran.new.input) (g.S.Source.taken c.run-ran.new.input) (g.S.Source.faults c.run-ran.new.input))
+    world (met_at c.run-ran.result.met) c.run-ran.result.outcome (g.H.Host.state c.args.host.now) (g.H.Host.state c.run-ran.new.host) (c.run-ran.ensures.runs ti to world each) in
+    (front.0, (c.end.ensures.only to).out ∙ front.1)

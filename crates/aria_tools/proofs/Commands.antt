@@ -1,0 +1,190 @@
+-- A whole command: its store is opened, its script is run, and it ends.
+use Rattle.std.proofs.Common.{◌≡◌, inl, inr, ⊎_elim, ℕ, ◌+◌, ◌-◌, ◌^◌, ◌<◌, ◌≤◌, min, Bool, true, false, Option, Some, None, List, [], ◌++◌, length, take, drop, IsTrue, Result, Ok, Err, refl, sym, ap, subst, ◌∙◌, arith}
+use Rattle.std.specs.Prelude.{◌↔◌, ◌≢◌, IfErr}
+use Rattle.std.proofs.lemmas.List.{append-nil}
+use Rattle.std.proofs.Math.Seq.{take-length, drop-append_seam}
+use Rattle.aria_host.specs.Count.{Rose}
+use Rattle.aria_host.specs.State.{Folder, State, LeavesOnly}
+use Rattle.aria_host.specs.declared.fault.Fault.{Fault}
+use Rattle.aria_host.specs.declared.fault.Fault.TheVariants as faults
+use Rattle.aria_host.proofs.Moments.{joined, weakened}
+use Rattle.aria_model.specs.World.{World}
+use Rattle.aria_model.specs.Script.{Exceptions, lines_of, ended_lines, statements, world_after, told, any_refused, acknowledged}
+use Rattle.aria_engine.specs.Holds.{Holds, IsDamage, AtRest, IsSettled}
+use Rattle.aria_engine.specs.Store.{SameFaults, StillHolds}
+use Rattle.aria_engine.specs.Done.{Leaves}
+use Rattle.aria_engine.proofs.Leaving.{leaves_none}
+use Rattle.aria_tools.specs.declared.stop.Stop.{Stop}
+use Rattle.aria_tools.specs.declared.stop.Stop.TheVariants.{Memory, Disk, LogDamaged, NotOurs, Input, Tell, TooLong}
+use Rattle.aria_tools.specs.Stops.{status_of, damage_of, damage_text}
+use Rattle.aria_tools.specs.Endings.{Supply, StopsBy, Ends, AnswersAll, AnswersPart, AnswersBy, AnswersEnded, AnswersFull, Answered, Runs, Prefix, IsEnd, IsEndText, IsStatusText, TellsText, TellsErr, TellsStatus, status_of_run}
+use Rattle.aria_tools.proofs.Pieces.{rose_since, same_faults_more}
+
+-- in the words of the whole run
+pub leaves_prefix : (w : World) (lines : List (List ℕ)) (xs : Exceptions) (out : List ℕ) (c : Folder) (told_by : List ℕ) → Leaves w lines xs out c told_by → Prefix w lines xs out c told_by
+leaves_prefix w lines xs out c told_by leaves = record {
+  count = leaves.count;
+  acked = subst (λ (t : List ℕ). acknowledged t ≤ leaves.count) (sym (ap (drop (length out)) leaves.told_is ∙ drop-append_seam out _)) leaves.acked;
+  holds = leaves.holds;
+}
+
+-- a run's end, also since its store was opened, which counted no fault
+pub ends_after : (ti to : Bool) (s0 s1 : Supply) (r : Result Bool Stop) (h h0 h1 : State) → SameFaults h h0 → IfErr r (λ stop. damage_of stop ≡ None) → Ends ti to s0 s1 r h0 h1 → Ends ti to s0 s1 r h h1
+ends_after ti to s0 s1 (Ok refused) h h0 h1 same sound ends = record { few = ends.few; ended = ends.ended; calm = ends.calm; same = same_faults_more h h0 h1 same ends.same }
+ends_after ti to s0 s1 (Err Memory) h h0 h1 same sound ends = ends
+ends_after ti to s0 s1 (Err Disk) h h0 h1 same sound ends = (ends.0, rose_since h.disk_faults h0.disk_faults h1.disk_faults (2 ^ 64 - 1) same.disk ends.1)
+ends_after ti to s0 s1 (Err (LogDamaged file page)) h h0 h1 same sound ends = absurd (cc)
+ends_after ti to s0 s1 (Err (NotOurs file)) h h0 h1 same sound ends = absurd (cc)
+ends_after ti to s0 s1 (Err Input) h h0 h1 same sound ends = ends
+ends_after ti to s0 s1 (Err Tell) h h0 h1 same sound ends = (ends.0, rose_since h.tell_faults h0.tell_faults h1.tell_faults (2 ^ 64 - 1) same.tell ends.1)
+ends_after ti to s0 s1 (Err TooLong) h h0 h1 same sound ends = ends
+
+by_after : (stop : Stop) (s0 s1 : Supply) (w : World) (xs : Exceptions) (h h0 h1 : State) → h0.out ≡ h.out → AnswersBy stop s0 s1 w xs h0 h1 → AnswersBy stop s0 s1 w xs h h1
+by_after Memory s0 s1 w xs h h0 h1 same by = tt
+by_after Disk s0 s1 w xs h h0 h1 same by = tt
+by_after (LogDamaged file page) s0 s1 w xs h h0 h1 same by = tt
+by_after (NotOurs file) s0 s1 w xs h h0 h1 same by = tt
+by_after Input s0 s1 w xs h h0 h1 same (taken, is, out) = (taken, is, out ∙ ap (λ (o : List ℕ). o ++ told w (ended_lines taken) xs) same)
+by_after Tell s0 s1 w xs h h0 h1 same by = tt
+by_after TooLong s0 s1 w xs h h0 h1 same (taken, further, is, long, out) = (taken, further, is, long, out ∙ ap (λ (o : List ℕ). o ++ told w (ended_lines taken) xs) same)
+
+answered_after : (s0 s1 : Supply) (w : World) (xs : Exceptions) (r : Result Bool Stop) (h h0 h1 : State) → h0.out ≡ h.out → Answered s0 s1 w xs r h0 h1 → Answered s0 s1 w xs r h h1
+answered_after s0 s1 w xs (Ok refused) h h0 h1 same all = record {
+  out = all.out ∙ ap (λ (o : List ℕ). o ++ told w (lines_of s0.left) xs) same;
+  is_refused = all.is_refused;
+  rest = all.rest;
+  settled = all.settled;
+  holds = all.holds;
+}
+answered_after s0 s1 w xs (Err stop) h h0 h1 same part = record {
+  out = (part.out.0, part.out.1 ∙ ap (λ (o : List ℕ). o ++ take part.out.0 (told w (lines_of s0.left) xs)) same);
+  by = by_after stop s0 s1 w xs h h0 h1 same part.by;
+}
+
+-- a run, also since its store was opened, in which each crash left the same tables
+pub runs_after : (s0 s1 : Supply) (world opened : World) (xs : Exceptions) (r : Result Bool Stop) (h h0 h1 : State) → opened ≡ world → h0.out ≡ h.out
+    → LeavesOnly h h0 (StillHolds world h.out) → Runs s0 s1 opened xs r h0 h1 → Runs s0 s1 world xs r h h1
+runs_after s0 s1 world opened xs r h h0 h1 is same still runs = record {
+  answered = answered_after s0 s1 world xs r h h0 h1 same (subst (λ (w : World). Answered s0 s1 w xs r h0 h1) is runs.answered);
+  moments = joined h h0 h1 (Leaves world (lines_of s0.left) xs h.out) (Leaves opened (lines_of s0.left) xs h0.out)
+      (weakened h h0 (StillHolds world h.out) (Leaves world (lines_of s0.left) xs h.out) still (λ c t holds. leaves_none world (lines_of s0.left) xs h.out c t holds.1 holds.0))
+      runs.moments
+      (λ c t leaves. subst (λ (o : List ℕ). Leaves world (lines_of s0.left) xs o c t) same (subst (λ (w : World). Leaves w (lines_of s0.left) xs h0.out c t) is leaves));
+}
+
+-- a run that stopped as its store was opened
+pub runs_never : (s0 s1 : Supply) (world : World) (xs : Exceptions) (stop : Stop) (h h0 : State) → h0.out ≡ h.out → AnswersBy stop s0 s1 world xs h h0
+    → LeavesOnly h h0 (StillHolds world h.out) → Runs s0 s1 world xs (Err stop) h h0
+runs_never s0 s1 world xs stop h h0 same by still = record {
+  answered = record { out = (0, same ∙ sym (append-nil h.out)); by = by };
+  moments = weakened h h0 (StillHolds world h.out) (Leaves world (lines_of s0.left) xs h.out) still (λ c t holds. leaves_none world (lines_of s0.left) xs h.out c t holds.1 holds.0);
+}
+
+-- what is told on standard error leaves what a crash may leave
+pub moments_after : (P : Folder → List ℕ → Type 0) (h h0 h1 : State) → ((c : Folder) → h.moment ≤ h0.moment → h0.may_leave c → h0.since h.moment c h0.out) → LeavesOnly h h0 P → TellsErr h0 h1 → LeavesOnly h h1 P
+moments_after P h h0 h1 counts run tells = record {
+  later = omega (arith, run.later, tells.later);
+  each = λ c t since. ⊎_elim (run.each c t) (now c t) (tells.moments h.moment c t run.later since);
+  before = λ u c t low since. ⊎_elim (run.before u c t low) (λ is. inr (now c t is)) (tells.moments u c t (omega (arith, low, run.later)) since);
+}
+  where
+    now : (c : Folder) (t : List ℕ) → h0.may_leave c × (t ≡ h0.out) → P c t
+    now c t (leaves, is) = subst (λ (o : List ℕ). P c o) (sym is) (run.each c h0.out (counts c run.later leaves))
+
+ok_of : (r : Result Bool Stop) → status_of_run r ≤ 1 → (refused : Bool) × (r ≡ Ok refused)
+ok_of (Ok refused) low = (refused, refl)
+ok_of (Err Memory) low = absurd (omega (arith, low))
+ok_of (Err Disk) low = absurd (omega (arith, low))
+ok_of (Err (LogDamaged file page)) low = absurd (omega (arith, low))
+ok_of (Err (NotOurs file)) low = absurd (omega (arith, low))
+ok_of (Err Input) low = absurd (omega (arith, low))
+ok_of (Err Tell) low = absurd (omega (arith, low))
+ok_of (Err TooLong) low = absurd (omega (arith, low))
+
+-- the status of a run that has read all
+pub ended_ok : (r : Result Bool Stop) (status : ℕ) → IsEnd r status → status ≤ 1 → (refused : Bool) × (r ≡ Ok refused) × (status ≡ status_of_run r)
+ended_ok r status end low = ⊎_elim (λ (is : status ≡ status_of_run r). let ok = ok_of r (omega (arith, low, is)) in (ok.0, ok.1, is)) (λ both. absurd (omega (arith, low, both.0))) end
+
+-- what a run that has read all has answered
+pub all_answered : (s0 s1 : Supply) (w : World) (xs : Exceptions) (r : Result Bool Stop) (refused : Bool) (h h0 : State) → r ≡ Ok refused → Runs s0 s1 w xs r h h0 → AnswersAll s0 w xs refused h h0
+all_answered s0 s1 w xs r refused h h0 is runs = subst (λ (o : Result Bool Stop). Answered s0 s1 w xs o h h0) is runs.answered
+
+one_where : (refused any : Bool) (status : ℕ) → status ≡ status_of_run (Ok refused) → refused ≡ any → (status ≡ 1) ↔ IsTrue any
+one_where true true status is same = (λ h. refl, λ h. is)
+one_where false false status is same = (λ h. absurd (omega (arith, h, is)), λ h. absurd (cc))
+one_where true false status is same = absurd (cc)
+one_where false true status is same = absurd (cc)
+
+-- a refusal is told by the status
+pub refused_is : (s0 s1 : Supply) (w : World) (xs : Exceptions) (r : Result Bool Stop) (status : ℕ) (h h0 : State) → IsEnd r status → status ≤ 1 → Runs s0 s1 w xs r h h0
+    → (status ≡ 1) ↔ IsTrue (any_refused w (lines_of s0.left) xs)
+refused_is s0 s1 w xs r status h h0 end low runs =
+    let ok = ended_ok r status end low in
+    let all = all_answered s0 s1 w xs r ok.0 h h0 ok.1 runs in
+    one_where ok.0 (any_refused w (lines_of s0.left) xs) status (ok.2 ∙ ap status_of_run ok.1) all.is_refused
+
+stop_six : (r : Result Bool Stop) → status_of_run r ≡ 6 → r ≡ Err Input
+stop_six (Ok true) is = absurd (omega (arith, is))
+stop_six (Ok false) is = absurd (omega (arith, is))
+stop_six (Err Memory) is = absurd (omega (arith, is))
+stop_six (Err Disk) is = absurd (omega (arith, is))
+stop_six (Err (LogDamaged file page)) is = absurd (omega (arith, is))
+stop_six (Err (NotOurs file)) is = absurd (omega (arith, is))
+stop_six (Err Input) is = refl
+stop_six (Err Tell) is = absurd (omega (arith, is))
+stop_six (Err TooLong) is = absurd (omega (arith, is))
+
+stop_eight : (r : Result Bool Stop) → status_of_run r ≡ 8 → r ≡ Err TooLong
+stop_eight (Ok true) is = absurd (omega (arith, is))
+stop_eight (Ok false) is = absurd (omega (arith, is))
+stop_eight (Err Memory) is = absurd (omega (arith, is))
+stop_eight (Err Disk) is = absurd (omega (arith, is))
+stop_eight (Err (LogDamaged file page)) is = absurd (omega (arith, is))
+stop_eight (Err (NotOurs file)) is = absurd (omega (arith, is))
+stop_eight (Err Input) is = absurd (omega (arith, is))
+stop_eight (Err Tell) is = absurd (omega (arith, is))
+stop_eight (Err TooLong) is = refl
+
+-- what a run has answered at a fault of the input
+pub ended_answered : (s0 s1 : Supply) (w : World) (xs : Exceptions) (r : Result Bool Stop) (status : ℕ) (h h0 h1 : State) → IsEnd r status → status ≡ 6 → Runs s0 s1 w xs r h h0 → h1.out ≡ h0.out → AnswersEnded s0 s1 w xs h h1
+ended_answered s0 s1 w xs r status h h0 h1 end six runs same =
+    let is = stop_six r (⊎_elim (λ (e : status ≡ status_of_run r). sym e ∙ six) (λ both. absurd (omega (arith, six, both.0))) end) in
+    let part = subst (λ (o : Result Bool Stop). Answered s0 s1 w xs o h h0) is runs.answered in
+    (part.by.0, part.by.1, same ∙ part.by.2)
+
+pub full_answered : (s0 s1 : Supply) (w : World) (xs : Exceptions) (r : Result Bool Stop) (status : ℕ) (h h0 h1 : State) → IsEnd r status → status ≡ 8 → Runs s0 s1 w xs r h h0 → h1.out ≡ h0.out → AnswersFull s0 s1 w xs h h1
+full_answered s0 s1 w xs r status h h0 h1 end eight runs same =
+    let is = stop_eight r (⊎_elim (λ (e : status ≡ status_of_run r). sym e ∙ eight) (λ both. absurd (omega (arith, eight, both.0))) end) in
+    let part = subst (λ (o : Result Bool Stop). Answered s0 s1 w xs o h h0) is runs.answered in
+    (part.by.0, part.by.1, part.by.2, part.by.3, same ∙ part.by.4)
+
+-- a front of what all lines tell was told
+pub front_told : (s0 s1 : Supply) (w : World) (xs : Exceptions) (r : Result Bool Stop) (h h0 : State) → Runs s0 s1 w xs r h h0 → (n : ℕ) × (h0.out ≡ h.out ++ take n (told w (lines_of s0.left) xs))
+front_told s0 s1 w xs r h h0 runs = front r runs.answered
+  where
+    front : (o : Result Bool Stop) → Answered s0 s1 w xs o h h0 → (n : ℕ) × (h0.out ≡ h.out ++ take n (told w (lines_of s0.left) xs))
+    front (Ok refused) all = let text = told w (lines_of s0.left) xs in (length text, all.out ∙ ap (λ (t : List ℕ). h.out ++ t) (sym (take-length text)))
+    front (Err stop) part = part.out
+
+damage_found : (ti to : Bool) (s0 s1 : Supply) (stop : Stop) (fault : Fault) (h h0 : State) → damage_of stop ≡ Some fault → StopsBy to stop s0 s1 h h0 → IsTrue to → IsDamage fault h.folder
+damage_found ti to s0 s1 Memory fault h h0 is stops told = absurd (cc)
+damage_found ti to s0 s1 Disk fault h h0 is stops told = absurd (cc)
+damage_found ti to s0 s1 (LogDamaged file page) fault h h0 is stops told = let same : faults.LogDamaged file page ≡ fault = cc in subst (λ (f : Fault). IsDamage f h.folder) same (stops.1 told).0
+damage_found ti to s0 s1 (NotOurs file) fault h h0 is stops told = let same : faults.NotOurs file ≡ fault = cc in subst (λ (f : Fault). IsDamage f h.folder) same (stops.1 told).0
+damage_found ti to s0 s1 Input fault h h0 is stops told = absurd (cc)
+damage_found ti to s0 s1 Tell fault h h0 is stops told = absurd (cc)
+damage_found ti to s0 s1 TooLong fault h h0 is stops told = absurd (cc)
+
+-- the text of a run's end is that of its status
+pub text_is : (ti to : Bool) (s0 s1 : Supply) (r : Result Bool Stop) (status : ℕ) (text : List ℕ) (h h0 : State) → Ends ti to s0 s1 r h h0 → IsTrue to → IsEndText r status text → IsStatusText status h.folder text
+text_is ti to s0 s1 r status text h h0 ends told (inl plain) = inl plain
+text_is ti to s0 s1 r status text h h0 ends told (inr (stop, fault, r_is, damage, five, is)) =
+    inr (five, fault, damage_found ti to s0 s1 stop fault h h0 damage (subst (λ (o : Result Bool Stop). Ends ti to s0 s1 o h h0) r_is ends) told, is)
+
+-- what is told on standard error at the end, as told since the beginning
+pub text_after : (text : List ℕ) (h h0 h1 : State) → h0.err ≡ h.err → h.tell_faults ≤ h0.tell_faults → TellsText text h0 h1 → TellsText text h h1
+text_after text h h0 h1 same later (inl is) = inl (is ∙ ap (λ (e : List ℕ). e ++ text) same)
+text_after text h h0 h1 same later (inr (rose, n, is)) = inr (rose_later h.tell_faults h0.tell_faults h1.tell_faults (2 ^ 64 - 1) later rose, n, is ∙ ap (λ (e : List ℕ). e ++ take n text) same)
+  where
+    rose_later : (a b c m : ℕ) → a ≤ b → min (b + 1) m ≤ c → min (a + 1) m ≤ c
+    rose_later a b c m low rose = omega arith

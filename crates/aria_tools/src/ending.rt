@@ -1,0 +1,115 @@
+//! Ends a run: the status, and the line on standard error.
+
+ghost use Rattle.std.specs.Prelude.{◌≡◌, ◌≢◌, ◌≤◌, List, ℕ, IsTrue, IfOk, OnErr, Err, Ok, false, true};
+ghost use Rattle.std.specs.Prelude.{MatchOption, None, Some};
+ghost use Rattle.std.specs.Option.{option_map};
+ghost use Rattle.aria_host.specs.declared.fault.Fault.TheVariants as faults;
+ghost use Rattle.aria_tools.specs.Endings.{IsEnd, IsEndText, TellsErr, TellsText, status_text, status_of_run};
+ghost use Rattle.aria_tools.specs.Stops.{damage_of, damage_text, status_of};
+
+use crate::stop::Stop;
+use aria_host::{FileName, Host, Stream};
+use aria_page::Bytes;
+use itoa::Buffer;
+use std::alloc::{AllocError, Global};
+
+// The line for a status.
+fn status_text(status: u8) -> &'static [u8]
+    ensures { result.now ≡ status_text status }
+{
+    match status {
+        2 => b"aria: bad words\n",
+        3 => b"aria: want of memory\n",
+        4 => b"aria: disk fault\n",
+        6 => b"aria: input fault\n",
+        8 => b"aria: input too long\n",
+        _ => b"",
+    }
+}
+
+fn log_damaged_text(alloc: Global, file: u32, page: u32) -> Result<Bytes, AllocError>
+    ensures { IfOk result (λ text. text ≡ damage_text (faults.LogDamaged file page)) }
+{
+    let mut text = Bytes::from_slice(alloc, b"aria: damaged log ")?;
+    let name = FileName::Log(file).text(alloc)?;
+    text.extend_from_slice(name.as_slice())?;
+    text.extend_from_slice(b" page ")?;
+    let mut buffer = Buffer::new();
+    text.extend_from_slice(buffer.format(page).as_bytes())?;
+    text.push(b'\n')?;
+    Ok(text)
+}
+
+fn not_ours_text(alloc: Global, file: &FileName) -> Result<Bytes, AllocError>
+    ensures { IfOk result (λ text. text ≡ damage_text (faults.NotOurs file.now)) }
+{
+    let mut text = Bytes::from_slice(alloc, b"aria: not ours ")?;
+    let name = file.text(alloc)?;
+    text.extend_from_slice(name.as_slice())?;
+    text.push(b'\n')?;
+    Ok(text)
+}
+
+// The line that names the damage, where a run stopped at one.
+fn damage_text(alloc: Global, stop: &Stop) -> Result<Option<Bytes>, AllocError>
+    ensures text { IfOk result (λ text. text ≡ option_map damage_text (damage_of stop.now)) }
+    ensures memory { OnErr result (status_of stop.now ≡ 5) }
+{
+    match stop {
+        Stop::LogDamaged { file, page } => Ok(Some(log_damaged_text(alloc, *file, *page)?)),
+        Stop::NotOurs { file } => Ok(Some(not_ours_text(alloc, file)?)),
+        _ => Ok(None),
+    }
+}
+
+// Tells a line on standard error. A fault while it is told changes nothing more.
+fn tell_line<H: Host>(host: &mut H, text: &[u8])
+    ensures told { IsTrue H.tells → TellsText text.now (H.state host.old) (H.state host.new) }
+    ensures only { IsTrue H.tells → TellsErr (H.state host.old) (H.state host.new) }
+    ensures later { (H.state host.old).tell_faults ≤ (H.state host.new).tell_faults }
+    ensures disk { (H.state host.new).disk_faults ≡ (H.state host.old).disk_faults }
+{
+    let _ = host.tell(Stream::Err, text);
+}
+
+// Ends a run that stopped.
+fn end_stopped<H: Host>(alloc: Global, host: &mut H, stop: &Stop) -> u8
+    ensures status { IsEnd (Err stop.now) result }
+    ensures told { IsTrue H.tells → (text : List ℕ) × IsEndText (Err stop.now) result text × TellsText text (H.state host.old) (H.state host.new) }
+    ensures only { IsTrue H.tells → TellsErr (H.state host.old) (H.state host.new) }
+    ensures later { (H.state host.old).tell_faults ≤ (H.state host.new).tell_faults }
+    ensures disk { (H.state host.new).disk_faults ≡ (H.state host.old).disk_faults }
+{
+    match damage_text(alloc, stop) {
+        Ok(Some(text)) => {
+            tell_line(host, text.as_slice());
+            5
+        }
+        Ok(None) => {
+            let status = stop.status();
+            tell_line(host, status_text(status));
+            status
+        }
+        Err(_) => {
+            tell_line(host, status_text(3));
+            3
+        }
+    }
+}
+
+/// Ends a run: tells the line of its status on standard error, and gives the status. Without memory for a line that
+/// names a damage it ends with want of memory.
+pub fn end<H: Host>(alloc: Global, host: &mut H, outcome: &Result<bool, Stop>) -> u8
+    ensures status { IsEnd outcome.now result }
+    ensures told { IsTrue H.tells → (text : List ℕ) × IsEndText outcome.now result text × TellsText text (H.state host.old) (H.state host.new) }
+    ensures only { IsTrue H.tells → TellsErr (H.state host.old) (H.state host.new) }
+    ensures later { (H.state host.old).tell_faults ≤ (H.state host.new).tell_faults }
+    ensures disk { (H.state host.new).disk_faults ≡ (H.state host.old).disk_faults }
+    ensures calm { result ≤ 1 → host.new ≡ host.old }
+{
+    match outcome {
+        Ok(false) => 0,
+        Ok(true) => 1,
+        Err(stop) => end_stopped(alloc, host, stop),
+    }
+}
