@@ -1,16 +1,16 @@
 -- Lines that are done one after another.
-use Rattle.std.proofs.Common.{◌≡◌, ℕ, ◌+◌, ◌≤◌, Bool, false, ◌||◌, List, [], ◌∷◌, ◌++◌, length, take, min, IsTrue, refl, sym, ap, subst, add_assoc, ◌∙◌, arith}
+use Rattle.std.proofs.Common.{◌≡◌, ℕ, ◌+◌, ◌≤◌, Bool, ◌||◌, List, [], ◌++◌, length, take, min, IsTrue, refl, sym, ap, subst, add_assoc, ◌∙◌, arith}
 use Rattle.std.proofs.lemmas.List.{append-nil, append_assoc}
 use Rattle.std.proofs.Math.Seq.{take-length}
 use Rattle.std.proofs.Math.Bool.{or_assoc, or-false}
-use Rattle.aria_host.specs.State.{Folder, State, LeavesOnly}
+use Rattle.aria_host.specs.State.{Folder, State}
 use Rattle.aria_host.proofs.Moments.{started, joined, weakened}
 use Rattle.aria_model.specs.World.{World}
 use Rattle.aria_model.specs.Script.{Exceptions, statements, world_after, told, any_refused, acknowledged}
 use Rattle.aria_engine.specs.declared.store.Store.{Store}
 use Rattle.aria_engine.specs.Holds.{Holds, AreLogAlone}
-use Rattle.aria_engine.specs.Store.{tables_of, count_of, pages_of}
-use Rattle.aria_engine.specs.Done.{Leaves, Done, DonePart, Does, DoesPart, AreMet, growth}
+use Rattle.aria_engine.specs.Store.{tables_of, count_of}
+use Rattle.aria_engine.specs.Done.{Leaves, Done, DonePart, Does, DoesPart}
 use Rattle.aria_model.proofs.Scripts.{from_nth, told-append, any_refused-append, left_by-append}
 use Rattle.aria_model.proofs.Acknowledged.{acknowledged-append, told_ends}
 use Rattle.aria_engine.proofs.Tallying.{are_met_front, are_met_behind, counts_none, counts_same, counts_front, counts_more, growth-statements, length-statements}

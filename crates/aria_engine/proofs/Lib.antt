@@ -2,3 +2,8 @@ pub mod Running
 pub mod Tallying
 pub mod Leaving
 pub mod Doing
+pub mod Tallies
+pub mod Completing
+pub mod Spending
+pub mod Stepping
+pub mod Turning

@@ -5,7 +5,7 @@ use Rattle.std.proofs.lemmas.List.{append-nil, length-append}
 use Rattle.std.proofs.Math.Seq.{take-length, drop-length}
 use Rattle.aria_host.proofs.Files.{same_file-true}
 use Rattle.aria_host.specs.declared.file_name.FileName.{FileName}
-use Rattle.aria_host.specs.Folder.{Folder, IsFileName, same_file}
+use Rattle.aria_host.specs.Folder.{Folder, same_file}
 use Rattle.aria_host.specs.State.{State}
 use Rattle.aria_log.specs.Front.{damaged_at, end_of}
 use Rattle.aria_log.specs.Log.{log_file, log_pages, log_of}

@@ -2,3 +2,5 @@ pub mod Holds
 pub mod Store
 pub mod Done
 pub mod Outcomes
+pub mod Turns
+pub mod Entries

@@ -1,5 +1,5 @@
 -- A store between its statements.
-use Rattle.std.specs.Prelude.{◌≡◌, ◌⊎◌, ℕ, ◌+◌, ◌<◌, ◌≤◌, [], ◌==◌, if◌then◌else◌, IsTrue, Bool, Option, None, Some, List, length}
+use Rattle.std.specs.Prelude.{◌≡◌, ℕ, ◌+◌, ◌≤◌, [], ◌==◌, if◌then◌else◌, IsTrue, Bool, Option, None, List, length}
 use Rattle.aria_host.specs.declared.fault.Fault.{Fault}
 use Rattle.aria_host.specs.declared.fault.Fault.TheVariants.{Memory, Disk, Tell, Input, NotOurs, LogDamaged}
 use Rattle.aria_host.specs.Count.{Rose}

@@ -7,11 +7,15 @@
 //! A store that has answered a fault keeps it: each later call answers it and does nothing.
 #![tactic(auto)]
 
+mod changing;
+mod complete;
 mod execute;
 mod open;
 mod outcome;
+mod reply;
 mod store;
 mod tally;
+mod turn;
 
 pub use outcome::Outcome;
 pub use store::Store;

@@ -1,5 +1,5 @@
-ghost use Rattle.std.specs.Prelude.{◌≡◌};
-ghost use Rattle.aria_engine.specs.Outcomes.{was_refused};
+ghost use Rattle.std.specs.Prelude.{◌≡◌, false};
+ghost use Rattle.aria_engine.specs.Outcomes.{was_refused, was_blank};
 
 /// What a line came to.
 #[derive(Clone, Copy, Debug)]
@@ -17,5 +17,17 @@ impl Outcome {
         ensures { result ≡ was_refused self }
     {
         matches!(self, Outcome::Refused)
+    }
+}
+
+/// What a statement came to.
+pub(crate) fn of_statement(refused: bool) -> Outcome
+    ensures refused { was_refused result ≡ refused }
+    ensures blank { was_blank result ≡ false }
+{
+    if refused {
+        Outcome::Refused
+    } else {
+        Outcome::Accepted
     }
 }
