@@ -14,3 +14,4 @@ pub mod Collecting
 pub mod Opening
 pub mod Found
 pub mod Keeping
+pub mod AtRest

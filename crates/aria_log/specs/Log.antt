@@ -79,6 +79,10 @@ pub record IsLog (log : LogValue) (s : State) (frames : List (List ℕ)) (forced
   -- with no byte in the page that is filled, that page begins a run: nothing was appended since the last force
   pub idle : log.used ≡ 0 → log.begins ≡ true
 
+-- the log was started, and has some frames
+abbrev pub IsRunning : LogValue → State → Type 0
+IsRunning log s = (frames : List (List ℕ)) × (forced : ℕ) × IsLog log s frames forced
+
 -- The log has these frames at each moment, but that some of those that aren't forced may be missing at its end.
 abbrev pub LogKeeps : State → State → List (List ℕ) → ℕ → Type 0
 LogKeeps old new frames forced = LogMoments old new (λ content. HoldsFrom content frames forced)

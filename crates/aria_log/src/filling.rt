@@ -15,6 +15,7 @@ use std::cmp::min;
 impl Log {
     // A log that ends before the page of this number, with nothing appended.
     pub(crate) fn at(number: u32) -> Log
+        requires { number ≤ 2 ^ 31 }
         ensures { Fills result number true [] }
     {
         Log {
@@ -27,6 +28,7 @@ impl Log {
 
     // Takes bytes from the front into the page, as many as there is room for, and says how many.
     fn fill(&mut self, bytes: &[u8]) -> usize
+        requires { self.old.number < 2 ^ 31 }
         ensures count { result ≡ min (8176 - self.old.used) (length bytes.now) }
         ensures used { self.new.used ≡ self.old.used + result }
         ensures number { self.new.number ≡ self.old.number }
@@ -61,8 +63,7 @@ impl Log {
 
     // Writes the page that is filled if it is full.
     fn make_room<H: Host>(&mut self, host: &mut H) -> Result<(), Fault>
-        requires room { self.old.used ≡ 8176 → self.old.number < 2 ^ 31 }
-        requires at { IsTrue H.tells → (base : List (List ℕ)) × (text : List ℕ) × IsAt self.old (H.state host.old) base text }
+        requires { IsTrue H.tells → (base : List (List ℕ)) × (text : List ℕ) × IsAt self.old (H.state host.old) base text }
         ensures made { IsTrue H.tells → (base : List (List ℕ)) (text : List ℕ) → IsAt self.old (H.state host.old) base text
             → Adds self.new (H.state host.old) (H.state host.new) base text (is_ok result) }
         ensures ok { OnOk result ((place self.new ≡ place self.old) × (self.new.used < 8176)) }
@@ -77,7 +78,7 @@ impl Log {
     // Puts bytes from the front of these behind what was appended, and says how many.
     fn step<H: Host>(&mut self, host: &mut H, bytes: &[u8]) -> Result<usize, Fault>
         requires some { 1 ≤ length bytes.now }
-        requires room { self.old.used ≡ 8176 → self.old.number < 2 ^ 31 }
+        requires room { place self.old < 8176 * 2 ^ 31 }
         requires at { IsTrue H.tells → (base : List (List ℕ)) × (text : List ℕ) × IsAt self.old (H.state host.old) base text }
         ensures added { IsTrue H.tells → (base : List (List ℕ)) (text : List ℕ) → IsAt self.old (H.state host.old) base text
             → MatchResult result (λ count. Adds self.new (H.state host.old) (H.state host.new) base (text ++ take count bytes.now) true) (λ _. LogMoments (H.state host.old) (H.state host.new) (IsImage base text)) }

@@ -1,4 +1,4 @@
-ghost use Rattle.std.specs.Prelude.{◌≤◌, ◌^◌};
+ghost use Rattle.std.specs.Prelude.{◌≤◌, ◌+◌, ◌*◌, ◌^◌};
 
 use aria_page::Page;
 
@@ -10,4 +10,5 @@ pub struct Log {
     pub(crate) begins: bool,
     pub(crate) used: u16,
     ghost within: { used ≤ 8176 },
+    ghost room: { 8176 * number + used ≤ 8176 * 2 ^ 31 },
 }

@@ -18,6 +18,9 @@ pub(crate) const BODY_AT: usize = 16;
 /// The size of the body of a page of the log, in bytes.
 pub(crate) const BODY_BYTES: usize = 8176;
 
+/// The bodies of all pages that a file may have, in bytes: it has up to 2^31 pages.
+pub(crate) const FILE_BODY_BYTES: u64 = 8176 << 31;
+
 fn flag(begins: bool) -> u8
     ensures { result ≡ (if begins then 1 else 0) }
 {

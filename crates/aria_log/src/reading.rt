@@ -7,13 +7,11 @@ ghost use Rattle.aria_log.specs.Frames.{frame_at, frames_in};
 ghost use Rattle.aria_log.specs.LogPage.{IsLogPage, read_log_page};
 ghost use Rattle.aria_log.specs.Places.{EndsBefore, pages_from};
 
+use crate::frame::MAX_FRAME_BYTES;
 use crate::log_page::{BODY_AT, BODY_BYTES, seal};
 use crate::opened::Frame;
 use aria_page::{Bytes, List, Page, bytes_at, u16_of, u32_at};
 use std::alloc::{AllocError, Global};
-
-/// The most bytes of a frame.
-pub(crate) const MAX_FRAME_BYTES: u32 = 1_048_576;
 
 fn same_bytes(a: &[u8], b: &[u8]) -> bool
     ensures { IsTrue result ↔ (a.now ≡ b.now) }
@@ -54,8 +52,9 @@ pub(crate) fn read_page_of(number: u32, page: &Page) -> Option<(bool, &[u8])>
 fn frame_of(len: u32, rest: &[u8]) -> Option<(&[u8], &[u8])>
     ensures { Gives (λ x. (x.0.now, x.1.now)) result (if nat_le 1 len && nat_le len 1048576 then bytes_at len rest.now else None) }
 {
+    let len = len as usize;
     if 1 <= len && len <= MAX_FRAME_BYTES {
-        bytes_at(rest, len as usize)
+        bytes_at(rest, len)
     } else {
         None
     }

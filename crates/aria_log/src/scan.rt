@@ -80,6 +80,7 @@ fn begins_from<H: Host>(host: &mut H, from: u32, pages: u32) -> Result<bool, Fau
 // How many pages the file has; none where it isn't there.
 fn pages_of<H: Host>(host: &mut H) -> Result<u32, Fault>
     ensures pages { IsTrue H.tells → IfOk result (λ pages. pages ≡ length (log_pages (H.state host.old).folder)) }
+    ensures within { IfOk result (λ pages. pages ≤ 2 ^ 31) }
     ensures same { IsTrue H.tells → Unchanged (H.state host.old) (H.state host.new) }
     ensures cause { HasDiskCause (H.state host.old) (H.state host.new) result }
 {
