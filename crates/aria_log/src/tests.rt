@@ -2,7 +2,7 @@ ghost use Rattle.std.specs.Prelude.{◌<◌, IfOk, IfSome, OnOk};
 ghost use Rattle.aria_host.specs.MemHost.{mem_state};
 ghost use Rattle.aria_log.specs.Log.{IsLogAtRest, IsRunning};
 
-use crate::{Log, Opened, is_frame, open};
+use crate::{Frame, Log, Opened, is_frame, open};
 use aria_host::{Fate, Fault, FileName, MemHost};
 use aria_page::{Bytes, List, Page};
 use std::alloc::{AllocError, Global};
@@ -40,11 +40,11 @@ fn frame_of(alloc: Global, number: usize, length: usize) -> Result<Bytes, AllocE
 }
 
 // Whether these are the frames of those lengths, numbered from 0 on.
-fn are_frames(alloc: Global, frames: &[Bytes], lengths: &[usize]) -> Result<bool, AllocError> {
+fn are_frames(alloc: Global, frames: &[Frame], lengths: &[usize]) -> Result<bool, AllocError> {
     for (number, length) in lengths.iter().enumerate() {
         let wanted = frame_of(alloc, number, *length)?;
         match frames.get(number) {
-            Some(frame) if frame.as_slice() == wanted.as_slice() => {}
+            Some(frame) if frame.bytes.as_slice() == wanted.as_slice() => {}
             _ => return Ok(false),
         }
     }

@@ -1,7 +1,7 @@
 -- A whole command: its store is opened, its script is run, and it ends.
-use Rattle.std.proofs.Common.{◌≡◌, inl, inr, ⊎_elim, ℕ, ◌+◌, ◌-◌, ◌^◌, ◌<◌, ◌≤◌, min, Bool, true, false, Option, Some, None, List, [], ◌++◌, length, take, drop, IsTrue, Result, Ok, Err, refl, sym, ap, subst, ◌∙◌, arith}
-use Rattle.std.specs.Prelude.{◌↔◌, ◌≢◌, IfErr}
-use Rattle.std.proofs.lemmas.List.{append-nil}
+use Rattle.std.proofs.Common.{◌≡◌, inl, inr, ⊎_elim, ℕ, ◌+◌, ◌-◌, ◌^◌, ◌<◌, ◌≤◌, min, Bool, true, false, Option, Some, None, List, [], ◌∷◌, ◌++◌, length, take, drop, IsTrue, Result, Ok, Err, refl, sym, ap, subst, ◌∙◌, arith}
+use Rattle.std.specs.Prelude.{◌↔◌, ◌≢◌, ◌⊎◌, IfErr, IsSome}
+use Rattle.std.proofs.lemmas.List.{append-nil, length-append}
 use Rattle.std.proofs.Math.Seq.{take-length, drop-append_seam}
 use Rattle.aria_host.specs.Count.{Rose}
 use Rattle.aria_host.specs.State.{Folder, State, LeavesOnly}
@@ -188,3 +188,42 @@ text_after text h h0 h1 same later (inr (rose, n, is)) = inr (rose_later h.tell_
   where
     rose_later : (a b c m : ℕ) → a ≤ b → min (b + 1) m ≤ c → min (a + 1) m ≤ c
     rose_later a b c m low rose = omega arith
+
+-- a folder that holds tables has no damage
+pub no_damage : (fault : Fault) (folder : Folder) (w : World) → IsDamage fault folder → Holds folder w → ⊥
+no_damage (faults.NotOurs file) folder w damage holds = none_there (folder file) damage.there (holds.alone file damage.form damage.other)
+  where
+    none_there : (content : Option (List (List ℕ))) → IsSome content → content ≡ None → ⊥
+    none_there None there none = cc
+    none_there (Some pages) there none = cc
+no_damage (faults.LogDamaged file page) folder w (one, alone, inl pages) holds = let none = holds.sound in cc
+no_damage (faults.LogDamaged file page) folder w (one, alone, inr line) holds = let none = holds.changes in let some = line.line in cc
+no_damage (faults.Memory error) folder w damage holds = absurd damage
+no_damage faults.Disk folder w damage holds = absurd damage
+no_damage faults.Tell folder w damage holds = absurd damage
+no_damage faults.Input folder w damage holds = absurd damage
+
+-- no fault is counted, so none is answered
+pub completes : (to : Bool) (ti : Bool) (s0 s1 : Supply) (w : World) (xs : Exceptions) (r : Result Bool Stop) (status : ℕ) (h h0 h1 : State) → IsTrue to → Holds h.folder w
+    → Ends ti to s0 s1 r h h0 → Runs s0 s1 w xs r h h0 → IsEnd r status → length s0.left ≤ 2 ^ 40
+    → (Rose h.disk_faults h1.disk_faults → ⊥) → (Rose h.tell_faults h1.tell_faults → ⊥) → (Rose s0.faults s1.faults → ⊥)
+    → h0.disk_faults ≤ h1.disk_faults → h0.tell_faults ≤ h1.tell_faults → (status ≤ 1) ⊎ (status ≡ 3)
+completes to ti s0 s1 w xs r status h h0 h1 told holds ends runs end short disk tell input disk_later tell_later =
+    ⊎_elim (λ (is : status ≡ status_of_run r). subst (λ (n : ℕ). (n ≤ 1) ⊎ (n ≡ 3)) (sym is) (of r ends runs.answered)) (λ both. inr both.0) end
+  where
+    rose_on : (a b c m : ℕ) → min (a + 1) m ≤ b → b ≤ c → min (a + 1) m ≤ c
+    rose_on a b c m rose later = omega arith
+
+    of : (o : Result Bool Stop) → Ends ti to s0 s1 o h h0 → Answered s0 s1 w xs o h h0 → (status_of_run o ≤ 1) ⊎ (status_of_run o ≡ 3)
+    of (Ok true) all answered = inl (omega arith)
+    of (Ok false) all answered = inl (omega arith)
+    of (Err Memory) stops answered = inr refl
+    of (Err Disk) stops answered = absurd (disk (rose_on h.disk_faults h0.disk_faults h1.disk_faults (2 ^ 64 - 1) stops.1 disk_later))
+    of (Err (LogDamaged file page)) stops answered = absurd (no_damage (faults.LogDamaged file page) h.folder w (stops.1 told).0 holds)
+    of (Err (NotOurs file)) stops answered = absurd (no_damage (faults.NotOurs file) h.folder w (stops.1 told).0 holds)
+    of (Err Input) stops answered = absurd (input stops.1)
+    of (Err Tell) stops answered = absurd (tell (rose_on h.tell_faults h0.tell_faults h1.tell_faults (2 ^ 64 - 1) stops.1 tell_later))
+    of (Err TooLong) stops answered =
+        let by = answered.by in
+        let long : length s0.left ≡ length by.0 + length (by.1 ∷ s1.left) = ap length by.2 ∙ length-append by.0 (by.1 ∷ s1.left) in
+        absurd (omega (arith, long, by.3, short))

@@ -1,6 +1,6 @@
 //! The command line as a call.
 
-ghost use Rattle.std.specs.Prelude.{◌≡◌, ◌≢◌, ◌⊎◌, ◌↔◌, ◌+◌, ◌^◌, ◌≤◌, ◌++◌, ℕ, List, [], All, take, IsTrue, IfOk};
+ghost use Rattle.std.specs.Prelude.{◌≡◌, ◌≢◌, ◌⊎◌, ◌↔◌, ◌+◌, ◌^◌, ◌≤◌, ◌++◌, ℕ, List, [], All, length, take, IsTrue, IfOk};
 ghost use Rattle.aria_host.specs.Count.{Rose};
 ghost use Rattle.aria_host.specs.Folder.{page_count};
 ghost use Rattle.aria_host.specs.State.{LeavesOnly};
@@ -97,6 +97,12 @@ pub fn aria<H: Host, S: Source>(
     ensures too_long_told { result.status ≡ 8 → IsTrue S.tells → IsTrue H.tells → (world : World) → EachHolds (H.state host.old) world → AnswersFull
         (supply (S.left input.old) (S.taken input.old) (S.faults input.old)) (supply (S.left input.new) (S.taken input.new) (S.faults input.new))
         world (met_at result.met) (H.state host.old) (H.state host.new) }
+
+    // It ends with 0 or 1, or for want of memory, where the folder holds tables, the input is short enough and no fault is counted.
+    ensures complete { IsRun words.now → IsTrue S.tells → IsTrue H.tells → (world : World) → EachHolds (H.state host.old) world
+        → length (S.left input.old) ≤ 2 ^ 40 → (¬ Rose (H.state host.old).disk_faults (H.state host.new).disk_faults)
+        → (¬ Rose (H.state host.old).tell_faults (H.state host.new).tell_faults) → (¬ Rose (S.faults input.old) (S.faults input.new))
+        → (result.status ≤ 1) ⊎ (result.status ≡ 3) }
 
     // On standard error stands the line of the status, or a front of it where telling failed.
     ensures error_text { IsTrue H.tells → TellsStatus result.status (H.state host.old) (H.state host.new) }

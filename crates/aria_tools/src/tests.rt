@@ -1,5 +1,6 @@
 use crate::{WordList, aria};
-use aria_host::{MemHost, MemSource, Stream};
+use aria_host::{Fate, FileName, MemHost, MemSource, Stream};
+use aria_page::{Bytes, List, Page};
 use std::alloc::{AllocError, Global};
 use std::test::Fail;
 
@@ -271,10 +272,11 @@ fn a_read_that_fails_stops_the_run(rt: HostRuntime) -> Result<(), Fail> {
 #[test]
 fn a_tell_that_fails_stops_the_run(rt: HostRuntime) -> Result<(), Fail> {
     let script = b"create t trans a:int keys k(a)\n\ninsert t (1)\nselect t k\n".as_slice();
+    // Opening makes calls 0 to 5; a statement that changes tables writes, syncs and tells.
     for (call, told) in [
-        (0, b"".as_slice()),
-        (1, b"ok\n".as_slice()),
-        (2, b"ok\nok 1\n".as_slice()),
+        (8, b"".as_slice()),
+        (11, b"ok\n".as_slice()),
+        (12, b"ok\nok 1\n".as_slice()),
     ] {
         let mut host = roomy_host(rt.alloc())?;
         host.plan_fault(call)?;
@@ -296,5 +298,208 @@ fn a_fault_at_the_error_line_keeps_the_status(rt: HostRuntime) -> Result<(), Fai
     assert_eq!(rt; ran.host.told(Stream::Out), b"".as_slice());
     assert_eq!(rt; ran.host.told(Stream::Err), b"".as_slice());
     assert_eq!(rt; ran.status, 2);
+    Ok(())
+}
+
+// Runs a script on the folder of the host.
+fn run_on(alloc: Global, host: &mut MemHost, script: &[u8]) -> Result<u8, AllocError> {
+    let words = word_list(alloc, &["run"])?;
+    let mut input = MemSource::new(alloc, script)?;
+    let ended = aria(alloc, &words, host, &mut input);
+    Ok(ended.status)
+}
+
+const CREATE_AND_INSERT: &[u8] = b"create t trans id:int v:int keys k(id)
+insert t (2,20) (-1,5)
+";
+
+// A page that isn't sound: it holds a byte that its checksum doesn't cover.
+fn torn_page() -> Page {
+    let mut page = Page::zero();
+    page.put(100, b"x");
+    page
+}
+
+// So many fates: all are that one.
+fn all_fates(alloc: Global, fate: Fate) -> Result<List<Fate>, AllocError> {
+    let mut fates = List::new(alloc);
+    for _ in 0..4 {
+        fates.push(fate)?;
+    }
+    Ok(fates)
+}
+
+#[test]
+fn tables_are_there_in_the_next_run(rt: HostRuntime) -> Result<(), Fail> {
+    let mut host = roomy_host(rt.alloc())?;
+    assert_eq!(rt; run_on(rt.alloc(), &mut host, CREATE_AND_INSERT)?, 0);
+    host.crash(&List::new(rt.alloc()))?;
+    assert_eq!(rt; run_on(rt.alloc(), &mut host, b"select t k")?, 0);
+    assert_eq!(rt;
+        host.told(Stream::Out),
+        b"ok\nok 2\nrow -1,5\nrow 2,20\nok 2\n".as_slice()
+    );
+    Ok(())
+}
+
+// What the next run tells where the insert's sync failed, and its page has this fate.
+fn told_after_the_insert(alloc: Global, fate: Fate) -> Result<Bytes, AllocError> {
+    let mut host = roomy_host(alloc)?;
+    host.stop_at(10);
+    run_on(alloc, &mut host, CREATE_AND_INSERT)?;
+    host.crash(&all_fates(alloc, fate)?)?;
+    run_on(alloc, &mut host, b"select t k")?;
+    Bytes::from_slice(alloc, host.told(Stream::Out))
+}
+
+#[test]
+fn a_crash_before_a_sync_keeps_the_statement_or_loses_it(rt: HostRuntime) -> Result<(), Fail> {
+    let lost = told_after_the_insert(rt.alloc(), Fate::Lost)?;
+    assert_eq!(rt; lost.as_slice(), b"ok\nok 0\n".as_slice());
+    let torn = told_after_the_insert(rt.alloc(), Fate::Torn(torn_page()))?;
+    assert_eq!(rt; torn.as_slice(), b"ok\nok 0\n".as_slice());
+    let kept = told_after_the_insert(rt.alloc(), Fate::Kept)?;
+    assert_eq!(rt; kept.as_slice(), b"ok\nrow -1,5\nrow 2,20\nok 2\n".as_slice());
+    Ok(())
+}
+
+#[test]
+fn a_damaged_log_is_refused(rt: HostRuntime) -> Result<(), Fail> {
+    let mut host = roomy_host(rt.alloc())?;
+    run_on(rt.alloc(), &mut host, CREATE_AND_INSERT)?;
+    run_on(rt.alloc(), &mut host, b"insert t (9,9)")?;
+    host.set_page(&FileName::Log(1), 1, &torn_page())?;
+    assert_eq!(rt; run_on(rt.alloc(), &mut host, b"select t k")?, 5);
+    assert_eq!(rt; host.told(Stream::Out), b"ok\nok 2\nok 1\n".as_slice());
+    assert_eq!(rt;
+        host.told(Stream::Err),
+        b"aria: damaged log aria_log.00000001 page 1\n".as_slice()
+    );
+    Ok(())
+}
+
+#[test]
+fn another_file_is_refused(rt: HostRuntime) -> Result<(), Fail> {
+    let mut host = roomy_host(rt.alloc())?;
+    host.set_page(&FileName::Log(2), 0, &Page::zero())?;
+    host.set_page(&FileName::Control, 0, &Page::zero())?;
+    assert_eq!(rt; run_on(rt.alloc(), &mut host, CREATE_AND_INSERT)?, 5);
+    assert_eq!(rt; host.told(Stream::Out), b"".as_slice());
+    assert_eq!(rt;
+        host.told(Stream::Err),
+        b"aria: not ours aria_log.00000002\n".as_slice()
+    );
+    Ok(())
+}
+
+const THREE_STATEMENTS: &[u8] = b"create t trans id:int v:int keys k(id)
+insert t (2,20)
+insert t (1,10) (3,30)
+";
+
+// What a select tells after so many of the three statements.
+fn selected(count: usize) -> &'static [u8] {
+    match count {
+        0 => b"no table t\n",
+        1 => b"ok 0\n",
+        2 => b"row 2,20\nok 1\n",
+        _ => b"row 1,10\nrow 2,20\nrow 3,30\nok 3\n",
+    }
+}
+
+// How many lines were told whole.
+fn lines_in(bytes: &[u8]) -> usize {
+    let mut lines: usize = 0;
+    for byte in bytes {
+        if *byte == b'\n' {
+            lines = lines.saturating_add(1);
+        }
+    }
+    lines
+}
+
+// All unsynced writes are lost, or all are kept, or all but one, which is lost or torn.
+fn fates_of(alloc: Global, kind: usize) -> Result<List<Fate>, AllocError> {
+    let mut fates = List::new(alloc);
+    for nth in 0..3 {
+        if kind == 0 || kind == 2 + nth {
+            fates.push(Fate::Lost)?;
+        } else if kind == 5 + nth {
+            fates.push(Fate::Torn(torn_page()))?;
+        } else {
+            fates.push(Fate::Kept)?;
+        }
+    }
+    Ok(fates)
+}
+
+// Whether a run now tells what is selected after some of the three statements, no fewer than so many.
+fn holds_a_front(alloc: Global, host: &mut MemHost, acked: usize) -> Result<bool, AllocError> {
+    let before = Bytes::from_slice(alloc, host.told(Stream::Out))?;
+    run_on(alloc, host, b"select t k")?;
+    for count in acked..4 {
+        let mut told = Bytes::from_slice(alloc, before.as_slice())?;
+        told.extend_from_slice(selected(count))?;
+        if host.told(Stream::Out) == told.as_slice() {
+            return Ok(true);
+        }
+    }
+    Ok(false)
+}
+
+// Whether a front is left where the run is stopped at a call, and a crash then has fates of this kind.
+fn survives(alloc: Global, stop: u64, kind: usize) -> Result<bool, AllocError> {
+    let mut host = roomy_host(alloc)?;
+    host.stop_at(stop);
+    run_on(alloc, &mut host, THREE_STATEMENTS)?;
+    host.crash(&fates_of(alloc, kind)?)?;
+    let acked = lines_in(host.told(Stream::Out));
+    holds_a_front(alloc, &mut host, acked)
+}
+
+// The same where the next run is stopped too, so many calls after its beginning.
+fn survives_twice(alloc: Global, stop: u64, again: u64, kind: usize) -> Result<bool, AllocError> {
+    let mut host = roomy_host(alloc)?;
+    host.stop_at(stop);
+    run_on(alloc, &mut host, THREE_STATEMENTS)?;
+    host.crash(&fates_of(alloc, 1)?)?;
+    let acked = lines_in(host.told(Stream::Out));
+    host.stop_at(host.calls().saturating_add(again));
+    run_on(alloc, &mut host, b"")?;
+    host.crash(&fates_of(alloc, kind)?)?;
+    holds_a_front(alloc, &mut host, acked)
+}
+
+#[test]
+fn a_crash_at_each_call_leaves_a_front(rt: HostRuntime) -> Result<(), Fail> {
+    for stop in 0..16 {
+        for kind in 0..8 {
+            assert!(rt; survives(rt.alloc(), stop, kind)?, "stopped at {stop}, fates {kind}");
+        }
+    }
+    Ok(())
+}
+
+#[test]
+fn a_crash_at_each_call_of_the_next_opening_leaves_a_front(
+    rt: HostRuntime,
+) -> Result<(), Fail> {
+    for stop in [7, 10, 13] {
+        for again in 0..10 {
+            for kind in 0..8 {
+                assert!(rt; survives_twice(rt.alloc(), stop, again, kind)?, "stopped at {stop}, then at {again}, fates {kind}");
+            }
+        }
+    }
+    Ok(())
+}
+
+#[test]
+fn a_sync_that_fails_is_a_disk_fault(rt: HostRuntime) -> Result<(), Fail> {
+    let mut host = roomy_host(rt.alloc())?;
+    host.plan_fault(7)?;
+    assert_eq!(rt; run_on(rt.alloc(), &mut host, CREATE_AND_INSERT)?, 4);
+    assert_eq!(rt; host.told(Stream::Out), b"".as_slice());
+    assert_eq!(rt; host.told(Stream::Err), b"aria: disk fault\n".as_slice());
     Ok(())
 }

@@ -6,8 +6,8 @@ use Rattle.aria_engine.proofs.complete.keep.Goals as goal
 pub returns-in_err-append-clause-moments : goal.returns-in_err-append-clause-moments
 returns-in_err-append-clause-moments g c = λ told lines is. c.in_err-append.ensures.moments told lines (length lines) is
 
-pub force-requires-clause-log : goal.force-requires-clause-log
-force-requires-clause-log g c = λ told.
+pub force-requires : goal.force-requires
+force-requires g c = λ told.
     let (lines, is) = c.requires.log told in
     (lines ++ c.args.line.now ∷ [], length lines, c.in_ok-append.ensures.appended told lines (length lines) is)
 

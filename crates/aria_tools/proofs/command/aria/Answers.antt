@@ -1,4 +1,4 @@
-use Rattle.std.proofs.Common.{◌∙◌, sym, subst}
+use Rattle.std.proofs.Common.{◌∙◌, sym, subst, arith}
 use Rattle.aria_host.specs.Folder.{Folder}
 use Rattle.aria_model.specs.Script.{lines_of, statements, world_after}
 use Rattle.aria_model.specs.Journal.{met_at}
@@ -7,7 +7,7 @@ use Rattle.aria_engine.specs.Done.{Leaves}
 use Rattle.aria_host.proofs.Moments.{weakened}
 use Rattle.aria_tools.specs.Endings.{Prefix}
 use Rattle.aria_tools.specs.Pieces.{supply}
-use Rattle.aria_tools.proofs.Commands.{leaves_prefix, moments_after, refused_is, all_answered, ended_ok, ended_answered, full_answered, front_told, text_is, text_after}
+use Rattle.aria_tools.proofs.Commands.{leaves_prefix, moments_after, refused_is, all_answered, ended_ok, ended_answered, full_answered, front_told, text_is, text_after, completes}
 use Rattle.aria_tools.proofs.command.aria.Goals as goal
 
 pub returns-clause-any_moment : goal.returns-clause-any_moment
@@ -71,3 +71,13 @@ returns-clause-part_told g c not_2 ti to world each =
     (supply (g.S.Source.left c.run-ran.new.input) (g.S.Source.taken c.run-ran.new.input) (g.S.Source.faults c.run-ran.new.input))
     world (met_at c.run-ran.result.met) c.run-ran.result.outcome (g.H.Host.state c.args.host.now) (g.H.Host.state c.run-ran.new.host) (c.run-ran.ensures.runs ti to world each) in
     (front.0, (c.end.ensures.only to).out ∙ front.1)
+
+pub returns-clause-complete : goal.returns-clause-complete
+returns-clause-complete g c run ti to world each short disk tell input =
+    completes g.H.Host.tells g.S.Source.tells (supply (g.S.Source.left c.args.input.now) (g.S.Source.taken c.args.input.now) (g.S.Source.faults c.args.input.now))
+    (supply (g.S.Source.left c.run-ran.new.input) (g.S.Source.taken c.run-ran.new.input) (g.S.Source.faults c.run-ran.new.input))
+    world (met_at c.run-ran.result.met) c.run-ran.result.outcome c.end.result
+    (g.H.Host.state c.args.host.now) (g.H.Host.state c.run-ran.new.host) (g.H.Host.state c.end.new.host) to
+    (each (g.H.Host.state c.args.host.now).folder (g.met.H.Host.reads_now c.args.host.now to))
+    c.run-ran.ensures.ends (c.run-ran.ensures.runs ti to world each) c.end.ensures.status short disk tell input
+    (omega (arith, c.end.ensures.disk)) c.end.ensures.later
