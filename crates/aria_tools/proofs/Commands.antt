@@ -17,7 +17,7 @@ use Rattle.aria_engine.proofs.Leaving.{leaves_none}
 use Rattle.aria_tools.specs.declared.stop.Stop.{Stop}
 use Rattle.aria_tools.specs.declared.stop.Stop.TheVariants.{Memory, Disk, LogDamaged, NotOurs, Input, Tell, TooLong}
 use Rattle.aria_tools.specs.Stops.{status_of, damage_of, damage_text}
-use Rattle.aria_tools.specs.Endings.{Supply, StopsBy, Ends, AnswersAll, AnswersPart, AnswersBy, AnswersEnded, AnswersFull, Answered, Runs, Prefix, IsEnd, IsEndText, IsStatusText, TellsText, TellsErr, TellsStatus, status_of_run}
+use Rattle.aria_tools.specs.Endings.{Supply, StopsBy, Ends, AnswersAll, AnswersPart, AnswersBy, AnswersEnded, AnswersFull, Answered, WasSound, Runs, Prefix, IsEnd, IsEndText, IsStatusText, TellsText, TellsErr, TellsStatus, status_of_run}
 use Rattle.aria_tools.proofs.Pieces.{rose_since, same_faults_more}
 
 -- in the words of the whole run
@@ -227,3 +227,30 @@ completes to ti s0 s1 w xs r status h h0 h1 told holds ends runs end short disk 
         let by = answered.by in
         let long : length s0.left ≡ length by.0 + length (by.1 ∷ s1.left) = ap length by.2 ∙ length-append by.0 (by.1 ∷ s1.left) in
         absurd (omega (arith, long, by.3, short))
+
+-- a store is opened of a folder that holds tables
+pub was_sound : (r : Result Bool Stop) (folder : Folder) (w : World) → Holds folder w → WasSound r folder
+was_sound (Ok refused) folder w holds = (w, holds)
+was_sound (Err Memory) folder w holds = tt
+was_sound (Err Disk) folder w holds = tt
+was_sound (Err (LogDamaged file page)) folder w holds = tt
+was_sound (Err (NotOurs file)) folder w holds = tt
+was_sound (Err Input) folder w holds = (w, holds)
+was_sound (Err Tell) folder w holds = (w, holds)
+was_sound (Err TooLong) folder w holds = (w, holds)
+
+-- with these statuses it was
+pub sound_where : (r : Result Bool Stop) (folder : Folder) (status : ℕ) → WasSound r folder → IsEnd r status → (status ≤ 1) ⊎ (6 ≤ status) → (world : World) × Holds folder world
+sound_where r folder status sound end which =
+    ⊎_elim (λ (is : status ≡ status_of_run r). of r sound (subst (λ (n : ℕ). (n ≤ 1) ⊎ (6 ≤ n)) is which))
+    (λ both. absurd (⊎_elim (λ low. omega (arith, low, both.0)) (λ high. omega (arith, high, both.0)) which)) end
+  where
+    of : (o : Result Bool Stop) → WasSound o folder → (status_of_run o ≤ 1) ⊎ (6 ≤ status_of_run o) → (world : World) × Holds folder world
+    of (Ok refused) held some = held
+    of (Err Memory) held some = absurd (⊎_elim (λ low. omega (arith, low)) (λ high. omega (arith, high)) some)
+    of (Err Disk) held some = absurd (⊎_elim (λ low. omega (arith, low)) (λ high. omega (arith, high)) some)
+    of (Err (LogDamaged file page)) held some = absurd (⊎_elim (λ low. omega (arith, low)) (λ high. omega (arith, high)) some)
+    of (Err (NotOurs file)) held some = absurd (⊎_elim (λ low. omega (arith, low)) (λ high. omega (arith, high)) some)
+    of (Err Input) held some = held
+    of (Err Tell) held some = held
+    of (Err TooLong) held some = held

@@ -62,6 +62,17 @@ abbrev pub Ends : Bool → Bool → Supply → Supply → Result Bool Stop → S
 Ends tells told_too supply supply_now (Ok refused) before now = ReadsAll tells supply supply_now before now
 Ends tells told_too supply supply_now (Err stop) before now = StopsBy told_too stop supply supply_now before now
 
+-- The folder held tables as the run began, but where it stopped as its store was opened, or may have.
+abbrev pub WasSound : Result Bool Stop → Folder → Type 0
+WasSound (Ok refused) folder = (world : World) × Holds folder world
+WasSound (Err Memory) folder = Unit {0}
+WasSound (Err Disk) folder = Unit {0}
+WasSound (Err (LogDamaged file page)) folder = Unit {0}
+WasSound (Err (NotOurs file)) folder = Unit {0}
+WasSound (Err Input) folder = (world : World) × Holds folder world
+WasSound (Err Tell) folder = (world : World) × Holds folder world
+WasSound (Err TooLong) folder = (world : World) × Holds folder world
+
 -- The lines that LF ends in the bytes that were taken are answered.
 abbrev pub AnswersEnded : Supply → Supply → World → Exceptions → State → State → Type 0
 AnswersEnded supply supply_now world exceptions before now =

@@ -75,6 +75,9 @@ pub fn aria<H: Host, S: Source>(
     ensures part_told { result.status ≢ 2 → IsTrue S.tells → IsTrue H.tells → (world : World) → EachHolds (H.state host.old) world
         → (n : ℕ) × ((H.state host.new).out ≡ (H.state host.old).out ++ take n (told world (lines_of (S.left input.old)) (met_at result.met))) }
 
+    // A damaged folder is refused: but with 2 to 5 it held tables as the call began.
+    ensures sound { (result.status ≤ 1) ⊎ (6 ≤ result.status) → IsTrue H.tells → (world : World) × Holds (H.state host.old).folder world }
+
     // 4: the disk failed.
     ensures disk_fault { result.status ≡ 4 → Rose (H.state host.old).disk_faults (H.state host.new).disk_faults }
 

@@ -10,7 +10,7 @@ ghost use Rattle.aria_model.specs.Journal.{met_at};
 ghost use Rattle.aria_engine.specs.Holds.{EachHolds};
 ghost use Rattle.aria_engine.specs.Store.{NoFewerFaults, SameFaults, IsFresh};
 ghost use Rattle.aria_engine.specs.Done.{DoesPart, IsFull};
-ghost use Rattle.aria_tools.specs.Endings.{Ends, Runs, Took};
+ghost use Rattle.aria_tools.specs.Endings.{Ends, Runs, Took, WasSound};
 ghost use Rattle.aria_tools.specs.Held.{clipped, Splits};
 ghost use Rattle.aria_tools.specs.Pieces.{Fed, IsReady, TakesPiece, NoPiece, supply};
 ghost use Rattle.aria_tools.specs.Sessions.{LineStops, RunsOn, RunsFrom};
@@ -137,6 +137,7 @@ pub fn run<H: Host, S: Source>(alloc: Global, host: &mut H, input: &mut S) -> Ra
     ensures runs { IsTrue S.tells → IsTrue H.tells → (world : World) → EachHolds (H.state host.old) world → Runs
         (supply (S.left input.old) (S.taken input.old) (S.faults input.old)) (supply (S.left input.new) (S.taken input.new) (S.faults input.new))
         world (met_at result.met) result.outcome (H.state host.old) (H.state host.new) }
+    ensures sound { IsTrue H.tells → WasSound result.outcome (H.state host.old).folder }
     ensures full { IsTrue S.tells → IsTrue H.tells → All (IsFull (lines_of (S.left input.old)) 0 (page_count log_file (H.state host.old).folder)) result.met }
     ensures silent { IsTrue H.tells → (H.state host.new).err ≡ (H.state host.old).err }
     ensures later { NoFewerFaults (H.state host.old) (H.state host.new) }

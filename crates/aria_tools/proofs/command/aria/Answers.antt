@@ -7,7 +7,7 @@ use Rattle.aria_engine.specs.Done.{Leaves}
 use Rattle.aria_host.proofs.Moments.{weakened}
 use Rattle.aria_tools.specs.Endings.{Prefix}
 use Rattle.aria_tools.specs.Pieces.{supply}
-use Rattle.aria_tools.proofs.Commands.{leaves_prefix, moments_after, refused_is, all_answered, ended_ok, ended_answered, full_answered, front_told, text_is, text_after, completes}
+use Rattle.aria_tools.proofs.Commands.{leaves_prefix, moments_after, refused_is, all_answered, ended_ok, ended_answered, full_answered, front_told, text_is, text_after, completes, sound_where}
 use Rattle.aria_tools.proofs.command.aria.Goals as goal
 
 pub returns-clause-any_moment : goal.returns-clause-any_moment
@@ -81,3 +81,7 @@ returns-clause-complete g c run ti to world each short disk tell input =
     (each (g.H.Host.state c.args.host.now).folder (g.met.H.Host.reads_now c.args.host.now to))
     c.run-ran.ensures.ends (c.run-ran.ensures.runs ti to world each) c.end.ensures.status short disk tell input
     (omega (arith, c.end.ensures.disk)) c.end.ensures.later
+
+pub returns-clause-sound : goal.returns-clause-sound
+returns-clause-sound g c which to =
+    sound_where c.run-ran.result.outcome (g.H.Host.state c.args.host.now).folder c.end.result (c.run-ran.ensures.sound to) c.end.ensures.status which

@@ -3,7 +3,7 @@ use Rattle.aria_engine.specs.Store.{tables_of}
 use Rattle.aria_engine.proofs.Running.{holds_one}
 use Rattle.aria_model.specs.Journal.{met_at}
 use Rattle.aria_tools.specs.Pieces.{supply}
-use Rattle.aria_tools.proofs.Commands.{ends_after, runs_after}
+use Rattle.aria_tools.proofs.Commands.{ends_after, runs_after, was_sound}
 use Rattle.aria_tools.proofs.reading.run.Goals as goal
 
 pub returns-in-Ok-clause-ends : goal.returns-in-Ok-clause-ends
@@ -23,3 +23,6 @@ returns-in-Ok-clause-runs g c ti to world each =
     runs_after supply0 supply1 world (tables_of c.in-Ok.store) (met_at c.run_store.result.met) c.run_store.result.outcome old mid (g.H.Host.state c.run_store.new.host)
     is (c.in-Ok.ensures.silent to).out (c.in-Ok.ensures.moments to world each)
     (c.run_store.ensures.runs.runs ti to (λ f leaves. (c.in-Ok.ensures.each to world each f leaves).alone))
+
+pub returns-in-Ok-clause-sound : goal.returns-in-Ok-clause-sound
+returns-in-Ok-clause-sound g c to = was_sound c.run_store.result.outcome (g.H.Host.state c.args.host.now).folder (tables_of c.in-Ok.store) (c.in-Ok.ensures.holds to)
