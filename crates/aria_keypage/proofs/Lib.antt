@@ -7,3 +7,6 @@ pub mod Options
 pub mod Sought
 pub mod Patch
 pub mod Spliced
+pub mod Grown
+pub mod Whole
+pub mod Joined

@@ -1,13 +1,11 @@
 -- Bytes put in the place of others, and what comes behind them moved.
-use Rattle.std.proofs.Common.{◌≡◌, ℕ, ◌+◌, ◌-◌, ◌≤◌, ◌<◌, List, [], ◌∷◌, ◌++◌, length, take, drop, refl, sym, ap, subst, ◌∙◌, append_assoc, take-add, arith}
+use Rattle.std.proofs.Common.{◌≡◌, ℕ, ◌+◌, ◌≤◌, List, ◌++◌, length, take, drop, refl, sym, ap, ◌∙◌, append_assoc, take-add, arith}
 use Rattle.std.proofs.lemmas.List.{take_at, drop_at, length-append, length-take, length-drop}
-use Rattle.aria_page.specs.declared.edit.Edit.{Edit}
-use Rattle.aria_page.specs.declared.edit.Edit.TheVariants.{Set, Shift, Whole}
-use Rattle.aria_page.specs.Edit.{IsWithin, edited}
+use Rattle.aria_page.specs.Edit.{edited}
 use Rattle.aria_page.specs.Page.{with_bytes}
 use Rattle.aria_page.specs.Number.{number}
 use Rattle.aria_page.proofs.Numbers.{length-number}
-use Rattle.aria_keypage.specs.Content.{Content, kind, item_bytes, front, IsContent, Spells}
+use Rattle.aria_keypage.specs.Content.{Content, kind, item_bytes, front, IsContent}
 use Rattle.aria_keypage.specs.Change.{edited_by, Changes, patch}
 
 -- bytes put over as many

@@ -17,7 +17,7 @@ use Rattle.aria_keypage.specs.Reading.{head_at, with_more, items_of, content_of,
 use Rattle.aria_keypage.proofs.Stored.{item_again, item_of-raw_of, packed_item_is, length-raw_bytes}
 
 -- nothing is read where there are no bytes
-raw-nil : (width : ℕ) → raw_at width [] ≡ None
+pub raw-nil : (width : ℕ) → raw_at width [] ≡ None
 unfolding raw_at
 raw-nil width = rw (number_short 1 [] (omega arith)) refl
 
@@ -81,7 +81,7 @@ head_takes body x fits e =
     subst (λ (y : ℕ × ℕ × List ℕ). (behind : List ℕ) × (body ≡ (number 1 y.0 ++ (number 1 y.1 ++ (number 2 (length y.2) ++ y.2))) ++ behind)) {x = made} (same_Some made x d.2) (d.0.1, whole.parts)
 
 -- the kind of a page is a byte
-kind-lt : (leaf : Bool) → kind leaf < 256
+pub kind-lt : (leaf : Bool) → kind leaf < 256
 kind-lt true = omega arith
 kind-lt false = omega arith
 
@@ -241,3 +241,7 @@ spells-one body c d p q =
     let same = same_Some (kind c.leaf, c.key, item_bytes c) (kind d.leaf, d.key, item_bytes d) (sym (head_again body c p) ∙ head_again body d q) in
     let leaf : c.leaf ≡ d.leaf = kind-same c.leaf d.leaf (ap (λ (x : ℕ × ℕ × List ℕ). x.0) same) in
     content-one c.leaf c d p.content q.content refl (sym leaf) (ap (λ (x : ℕ × ℕ × List ℕ). x.1) same) (ap (λ (x : ℕ × ℕ × List ℕ). x.2) same)
+
+-- the packed items of a page, by what is seen of it
+pub packed-seen : (inside c : Content) (w : ℕ) (bytes : List ℕ) → inside ≡ c → ArePacked (width inside.leaf) inside.items bytes → w ≡ width c.leaf → ArePacked w c.items bytes
+packed-seen inside c w bytes e is ew = subst (λ (n : ℕ). ArePacked n c.items bytes) (sym ew) (subst (λ (d : Content). ArePacked (width d.leaf) d.items bytes) e is)

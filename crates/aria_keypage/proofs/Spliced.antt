@@ -1,8 +1,7 @@
 -- Packed items with one more or one fewer of them.
-use Rattle.std.proofs.Common.{◌≡◌, Bool, true, false, ℕ, zero, suc, ◌+◌, ◌-◌, ◌*◌, ◌≤◌, ◌<◌, ◌^◌, min, List, [], ◌∷◌, ◌++◌, length, take, drop, refl, sym, ap, subst, ◌∙◌, append_assoc, add-one, arith, ◌⊎◌, inl, inr}
-use Rattle.std.specs.List.{AllByRecursion, insert, remove, sum_by}
+use Rattle.std.proofs.Common.{◌≡◌, Bool, true, false, ℕ, zero, suc, ◌+◌, ◌-◌, ◌≤◌, ◌<◌, min, List, [], ◌∷◌, ◌++◌, length, take, drop, refl, sym, ap, subst, ◌∙◌, append_assoc, add-one, arith}
+use Rattle.std.specs.List.{AllByRecursion, sum_by}
 use Rattle.std.proofs.lemmas.List.{take-append-drop, drop_more, drop_all, length-append, length-drop}
-use Rattle.std.proofs.lemmas.Bool.{cases_lt}
 use Rattle.aria_page.specs.declared.edit.Edit.{Edit}
 use Rattle.aria_page.specs.Number.{number}
 use Rattle.aria_page.proofs.Numbers.{length-number, number-one}
@@ -15,7 +14,6 @@ use Rattle.aria_keypage.proofs.Shares.{common-both, common-turn}
 use Rattle.aria_keypage.proofs.Counted.{last_entry, packed-append, all-append}
 use Rattle.aria_keypage.proofs.Patch.{patch-changes}
 use Rattle.aria_keypage.proofs.Stored.{shared-le, shared-lt}
-use Rattle.aria_keypage.proofs.Walk.{item_fits}
 
 -- packed items are the first and the rest
 pub pieces : (width : ℕ) (before : List ℕ) (xs : List Item) → packed width before xs ≡ first_packed width before xs ++ rest_packed width xs
@@ -275,3 +273,37 @@ removed c at size left behind before start new is h es el eb ep e0 en =
     let part : left - behind + behind ≡ length (packed (width c.leaf) (entry_before c.items at) (drop at c.items)) = omega (arith, inner, el) in
     let done = remove-changes c at (size - left) (left - behind) behind new is h whole behind_is part new_is in
     record { changes = done.0; old_fits = omega (arith, low, inner, es, is.size); new_fits = done.1; few = remove-bytes c at new is new_is }
+
+-- the size of a page with one more item
+with-size : (c : Content) (at : ℕ) (x : Item) → at ≤ length c.items
+    → length (item_bytes (with_item c at x)) + length (first_packed (width c.leaf) (entry_before c.items at) (drop at c.items)) ≡ length (item_bytes c) + length (packed_item (width c.leaf) (entry_before c.items at) x) + length (first_packed (width c.leaf) x.entry (drop at c.items))
+unfolding item_bytes
+with-size c at x h =
+    let w : ℕ = width c.leaf in
+    let p : List ℕ = entry_before c.items at in
+    let tail : List Item = drop at c.items in
+    let a : List ℕ = bytes_before c at in
+    let m : List ℕ = first_packed w p tail in
+    let z : List ℕ = rest_packed w tail in
+    let one : List ℕ = packed_item w p x in
+    let two : List ℕ = first_packed w x.entry tail in
+    let from : item_bytes c ≡ a ++ (m ++ z) =
+    ap (λ (l : List Item). first_bytes c.leaf c.first ++ packed w [] l) (sym (take-append-drop at c.items)) ∙ bytes-cut c at tail (m ++ z) h (pieces w p tail) in
+    let into : item_bytes (with_item c at x) ≡ a ++ ((one ++ two) ++ z) = bytes-cut c at (x ∷ tail) ((one ++ two) ++ z) h (both-packed w p x tail) in
+    omega (arith, ap length from, ap length into, length-append a (m ++ z), length-append m z, length-append a ((one ++ two) ++ z), length-append (one ++ two) z, length-append one two)
+
+-- behind the last one
+pub grown-none : (c : Content) (at n : ℕ) (x : Item) → at ≡ length c.items → n ≡ shared (entry_before c.items at) x.entry → length (item_bytes (with_item c at x)) + n ≡ length (item_bytes c) + 3 + width c.leaf + length x.entry
+grown-none c at n x h en =
+    let one = ap length (first-none (width c.leaf) (entry_before c.items at) c.items at (omega (arith, h))) in
+    let two = ap length (first-none (width c.leaf) x.entry c.items at (omega (arith, h))) in
+    omega (arith, with-size c at x (omega (arith, h)), one, two, length-packed_item (width c.leaf) (entry_before c.items at) x, en)
+
+-- before another one
+pub grown-some : (c : Content) (at n k s : ℕ) (x : Item) → at < length c.items → n ≡ shared (entry_before c.items at) x.entry → k ≡ shared x.entry (item_at c.items at).entry → s ≡ shared (entry_before c.items at) (item_at c.items at).entry
+    → length (item_bytes (with_item c at x)) + n + k ≡ length (item_bytes c) + 3 + width c.leaf + length x.entry + s
+grown-some c at n k s x h en ek es =
+    let y : Item = item_at c.items at in
+    let one = ap length (first-at (width c.leaf) (entry_before c.items at) c.items at h) in
+    let two = ap length (first-at (width c.leaf) x.entry c.items at h) in
+    omega (arith, with-size c at x (omega arith), one, two, length-packed_item (width c.leaf) (entry_before c.items at) x, length-packed_item (width c.leaf) (entry_before c.items at) y, length-packed_item (width c.leaf) x.entry y, en, ek, es)

@@ -1,6 +1,6 @@
 -- Changes of a key page, as edits of its body.
-use Rattle.std.specs.Prelude.{◌≡◌, ℕ, ◌+◌, List, [], ◌∷◌, ◌++◌, length}
-use Rattle.std.specs.List.{AllByRecursion, insert, remove, sum_by}
+use Rattle.std.specs.Prelude.{◌≡◌, ℕ, ◌+◌, true, false, List, [], ◌∷◌, length}
+use Rattle.std.specs.List.{AllByRecursion, insert, remove}
 use Rattle.aria_page.specs.declared.edit.Edit.{Edit}
 use Rattle.aria_page.specs.declared.edit.Edit.TheVariants.{Set, Shift, Whole}
 use Rattle.aria_page.specs.Edit.{IsWithin, edited}
@@ -36,3 +36,16 @@ without_item c at = record c { items = remove c.items at }
 abbrev pub patch : ℕ → ℕ → ℕ → List ℕ → List Edit
 patch before old behind bytes =
     Shift (4 + before + old) behind (4 + before + length bytes) ∷ Set (4 + before) bytes ∷ Set 2 (number 2 (before + length bytes + behind)) ∷ []
+
+-- a whole body that spells this
+pub record IsBody (body : List ℕ) (c : Content) : Type 0 where
+  pub size : length body ≡ 8181
+  pub spells : Spells body c
+
+-- a leaf with one item
+abbrev pub leaf_of_one : ℕ → Item → Content
+leaf_of_one key x = record { leaf = true; key = key; first = 0; items = x ∷ [] }
+
+-- a node with a first child and one item
+abbrev pub node_of_one : ℕ → ℕ → Item → Content
+node_of_one key first x = record { leaf = false; key = key; first = first; items = x ∷ [] }

@@ -5,3 +5,4 @@ pub mod Raw
 pub mod Content
 pub mod Reading
 pub mod Change
+pub mod Pair

@@ -1,6 +1,6 @@
 //! Edits that put an item into a page or take one out.
 
-ghost use Rattle.std.specs.Prelude.{◌≡◌, ℕ, ◌+◌, ◌<◌, ◌≤◌, ◌^◌, ◌++◌, List, length, drop, IfOk};
+ghost use Rattle.std.specs.Prelude.{◌≡◌, ℕ, ◌+◌, ◌<◌, ◌≤◌, ◌^◌, ◌++◌, List, length, drop, min, IsTrue, ◌↔◌, IfOk};
 ghost use Rattle.std.specs.List.{sum_by};
 ghost use Rattle.aria_page.specs.Number.{number};
 ghost use Rattle.aria_keypage.specs.Item.{Item, item_at, entry_before};
@@ -9,20 +9,30 @@ ghost use Rattle.aria_keypage.specs.Pieces.{first_packed, rest_packed};
 ghost use Rattle.aria_keypage.specs.Content.{width, item_bytes};
 ghost use Rattle.aria_keypage.specs.Change.{Changes, edit_bytes, with_item, without_item, patch};
 
+use crate::find::{against, met_at};
 use crate::key_page::{KeyPage, width_of};
 use crate::order::common;
-use crate::raw::{ENTRY_MAX, bytes_from};
+use crate::raw::{bytes_from, raw_at};
 use crate::steps::{entry_from, skip};
 use aria_page::{Bytes, Edit, List, u16_bytes, u32_bytes, u40_bytes};
 use std::alloc::{AllocError, Global};
+
+/// The most item bytes of a page.
+pub const FULL: usize = 8177;
+
+// As many leading bytes as an entry may take.
+fn capped(met: usize) -> usize
+    ensures { result ≡ min 255 met }
+{
+    if met < 255 { met } else { 255 }
+}
 
 // How many leading bytes an entry takes from the one before it.
 #[tactic(auto, unfolding(crate::specs::Packed::shared))]
 fn shared_of(before: &[u8], entry: &[u8]) -> u8
     ensures { result ≡ shared before.now entry.now }
 {
-    let same = common(before, entry);
-    if same < 255 { same as u8 } else { 255 }
+    capped(common(before, entry)) as u8
 }
 
 // Adds what is stored of an entry behind another, and the bytes of where it leads.
@@ -58,7 +68,7 @@ pub(crate) fn push_item(
 }
 
 // The edits that put item bytes in the place of others, after so many of them and before so many.
-fn patch(
+pub(crate) fn patch(
     alloc: Global,
     before: usize,
     old: usize,
@@ -90,7 +100,7 @@ fn patch(
 
 impl<'a> KeyPage<'a> {
     // The entry before a place.
-    fn entry_before(&self, alloc: Global, at: usize) -> Result<Vec<u8>, AllocError>
+    pub(crate) fn entry_before(&self, alloc: Global, at: usize) -> Result<Vec<u8>, AllocError>
         requires { at ≤ length self.now.items }
         ensures { IfOk result (λ entry. entry.items ≡ entry_before self.now.items at) }
     {
@@ -117,7 +127,7 @@ impl<'a> KeyPage<'a> {
     }
 
     // Adds the item at a place, where there is one, behind another entry.
-    fn push_behind(
+    pub(crate) fn push_behind(
         &self,
         alloc: Global,
         at: usize,
@@ -132,6 +142,31 @@ impl<'a> KeyPage<'a> {
         }
         let next = self.entry_at(alloc, at)?;
         push_item(out, self.leaf, entry, next.as_slice(), self.target_at(at))
+    }
+
+    // The number of item bytes of the page with one more item at a place.
+    fn grown(&self, at: usize, entry: &[u8]) -> usize
+        requires at { at ≤ length self.now.items }
+        requires entry { length entry.now ≤ 1000 }
+        ensures { (to : ℕ) → result ≡ length (item_bytes (with_item self.now at (record { entry = entry.now; to = to }))) }
+    {
+        let width = width_of(self.leaf);
+        let (met, rest) = met_at(self.items, width, at, entry);
+        let whole = self.size() + 3 + width + entry.len();
+        let Some((raw, _)) = raw_at(rest, width) else {
+            return whole - capped(met);
+        };
+        let (same, _) = against(met, &raw, entry);
+        whole + raw.shared as usize - capped(met) - capped(same)
+    }
+
+    /// Whether the page with this entry at a place has at most 8177 item bytes.
+    pub fn has_room(&self, at: usize, entry: &[u8]) -> bool
+        requires at { at ≤ length self.now.items }
+        requires entry { length entry.now ≤ 1000 }
+        ensures { (to : ℕ) → (IsTrue result ↔ (length (item_bytes (with_item self.now at (record { entry = entry.now; to = to }))) ≤ 8177)) }
+    {
+        self.grown(at, entry) <= FULL
     }
 
     /// The edits that put an item at a place. They bring at most 2018 bytes.

@@ -3,8 +3,8 @@
 ghost use Rattle.std.specs.Prelude.{◌≡◌, ℕ, ◌<◌, ◌≤◌, List, length, true, drop};
 ghost use Rattle.std.specs.Ordering.{nat_cmp};
 ghost use Rattle.std.specs.Cmp.Lexicographic.{slice_cmp};
-ghost use Rattle.aria_keypage.specs.Item.{Item, is_below, IsPlace};
-ghost use Rattle.aria_keypage.specs.Packed.{common, ArePacked};
+ghost use Rattle.aria_keypage.specs.Item.{Item, entry_before, is_below, IsPlace};
+ghost use Rattle.aria_keypage.specs.Packed.{common, ArePacked, IsLeft};
 
 use crate::order::compare;
 use crate::raw::{Raw, bytes_from, raw_at};
@@ -14,7 +14,7 @@ use std::cmp::Ordering;
 //
 // What the entry before and the sought one have in common is `met`. An item that shares more than that
 // with the entry before differs from the sought one in the same byte, and isn't looked at.
-fn against(met: usize, raw: &Raw<'_>, entry: &[u8]) -> (usize, Ordering)
+pub(crate) fn against(met: usize, raw: &Raw<'_>, entry: &[u8]) -> (usize, Ordering)
     requires { met ≤ length entry.now }
     ensures within { result.0 ≤ length entry.now }
     ensures common { (before there : List ℕ) → met ≡ common before entry.now → raw.now.shared ≤ common before there → raw.now.rest.now ≡ drop raw.now.shared there → result.0 ≡ common there entry.now }
@@ -48,4 +48,28 @@ pub(crate) fn find_in(items: &[u8], width: usize, count: usize, entry: &[u8]) ->
         rest = behind;
     }
     (count, false)
+}
+
+// How many leading bytes the entry before a place has in common with another, and what is left from there on.
+pub(crate) fn met_at<'b>(
+    items: &'b [u8],
+    width: usize,
+    count: usize,
+    entry: &[u8],
+) -> (usize, &'b [u8])
+    ensures within { result.0 ≤ length entry.now }
+    ensures met { (xs : List Item) → ArePacked width xs items.now → count ≤ length xs → result.0 ≡ common (entry_before xs count) entry.now }
+    ensures left { (xs : List Item) → ArePacked width xs items.now → count ≤ length xs → IsLeft width xs count result.1.now }
+{
+    let mut rest = items;
+    let mut met = 0;
+    for at in 0..count {
+        let Some((raw, behind)) = raw_at(rest, width) else {
+            return (met, rest);
+        };
+        let (same, _) = against(met, &raw, entry);
+        met = same;
+        rest = behind;
+    }
+    (met, rest)
 }

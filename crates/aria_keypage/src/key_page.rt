@@ -25,6 +25,7 @@ pub const NODE: u8 = 11;
 pub const LOW: usize = 2045;
 
 /// A leaf or a node of a key's tree, seen in its page.
+#[derive(Drop)]
 pub struct KeyPage<'a> {
     pub(crate) leaf: bool,
     pub(crate) key: u8,

@@ -7,7 +7,7 @@ ghost use Rattle.aria_keypage.specs.Packed.{common};
 use std::cmp::Ordering;
 
 /// How many leading bytes the two have in common.
-pub fn common(a: &[u8], b: &[u8]) -> usize
+pub(crate) fn common(a: &[u8], b: &[u8]) -> usize
     ensures { result ≡ common a.now b.now }
 {
     let mut at = 0;
@@ -18,7 +18,7 @@ pub fn common(a: &[u8], b: &[u8]) -> usize
 }
 
 /// How many leading bytes the two have in common, and which of them comes first.
-pub fn compare(a: &[u8], b: &[u8]) -> (usize, Ordering)
+pub(crate) fn compare(a: &[u8], b: &[u8]) -> (usize, Ordering)
     ensures common { result.0 ≡ common a.now b.now }
     ensures order { result.1 ≡ slice_cmp nat_cmp a.now b.now }
 {

@@ -1,4 +1,4 @@
-use Rattle.std.proofs.Common.{◌≡◌, ◌≤◌, arith, length}
+use Rattle.std.proofs.Common.{arith}
 use Rattle.aria_keypage.proofs.Stored.{shared-le}
 use Rattle.aria_keypage.proofs.Spliced.{pushed-item}
 use Rattle.aria_keypage.proofs.change.push_stored.Goals as goal

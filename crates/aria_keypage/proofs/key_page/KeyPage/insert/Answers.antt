@@ -1,4 +1,4 @@
-use Rattle.std.proofs.Common.{◌≡◌, ◌≤◌, ◌<◌, ◌∙◌, ◌++◌, ◌+◌, ◌-◌, ap, sym, subst, arith, length, List, ℕ}
+use Rattle.std.proofs.Common.{◌≡◌, ◌∙◌, ◌-◌, ap, sym, subst, arith, List}
 use Rattle.aria_page.specs.declared.edit.Edit.{Edit}
 use Rattle.std.specs.List.{sum_by}
 use Rattle.aria_keypage.specs.Item.{Item}

@@ -1,4 +1,4 @@
-use Rattle.std.proofs.Common.{◌≡◌, ◌≤◌, ◌<◌, ◌∙◌, ap, sym, arith, length}
+use Rattle.std.proofs.Common.{◌≡◌, ◌∙◌, ap, sym, arith, length}
 use Rattle.aria_keypage.specs.Content.{Content, width}
 use Rattle.aria_keypage.proofs.Spliced.{rest-none, rest-at}
 use Rattle.aria_keypage.proofs.key_page.KeyPage.left_behind.Goals as goal

@@ -1,6 +1,5 @@
-use Rattle.std.proofs.Common.{◌≡◌, ◌≤◌, ◌<◌, ◌∙◌, ◌++◌, ap, sym, arith, length, List, ℕ}
+use Rattle.std.proofs.Common.{◌≡◌, ◌∙◌, ◌++◌, ap, sym, arith, length, List, ℕ}
 use Rattle.std.proofs.lemmas.List.{append-nil}
-use Rattle.aria_keypage.specs.Item.{item_at}
 use Rattle.aria_keypage.specs.Content.{Content, width}
 use Rattle.aria_keypage.specs.Packed.{packed_item}
 use Rattle.aria_keypage.proofs.Options.{ok-map}

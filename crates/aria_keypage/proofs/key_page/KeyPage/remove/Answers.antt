@@ -1,7 +1,6 @@
-use Rattle.std.proofs.Common.{◌≡◌, ◌≤◌, ◌<◌, ◌∙◌, ◌++◌, ◌+◌, ◌-◌, ap, sym, subst, arith, length, List, ℕ}
+use Rattle.std.proofs.Common.{◌≡◌, ◌∙◌, ◌-◌, ap, sym, subst, arith, List}
 use Rattle.aria_page.specs.declared.edit.Edit.{Edit}
 use Rattle.std.specs.List.{sum_by}
-use Rattle.aria_keypage.specs.Content.{Content, width}
 use Rattle.aria_keypage.specs.Change.{Changes, edit_bytes, without_item, patch}
 use Rattle.aria_keypage.proofs.Options.{ok-map}
 use Rattle.aria_keypage.proofs.Spliced.{removed, behind-next, length-bytes_before, patch-bytes}

@@ -1,4 +1,4 @@
-use Rattle.std.proofs.Common.{◌≡◌, ◌≤◌, ◌∙◌, ap, subst, length}
+use Rattle.std.proofs.Common.{◌∙◌, ap, subst, length}
 use Rattle.aria_keypage.specs.Content.{Content, item_bytes, IsContent}
 use Rattle.aria_keypage.proofs.Read.{leaf-size, node-size, content-count}
 use Rattle.aria_keypage.proofs.key_page.KeyPage.size.Goals as goal
