@@ -10,3 +10,6 @@ pub mod Spliced
 pub mod Grown
 pub mod Whole
 pub mod Joined
+pub mod Fitting
+pub mod Middle
+pub mod Divided

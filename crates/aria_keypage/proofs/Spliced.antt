@@ -41,7 +41,7 @@ pub packed-cut : (width : ℕ) (xs : List Item) (at : ℕ) → at ≤ length xs 
 packed-cut width xs at h = ap (packed width []) (sym (take-append-drop at xs)) ∙ packed-behind width xs (drop at xs) at h
 
 -- one of many is the first from its place on
-drop-at : (xs : List Item) (at : ℕ) → at < length xs → drop at xs ≡ item_at xs at ∷ drop (suc at) xs
+pub drop-at : (xs : List Item) (at : ℕ) → at < length xs → drop at xs ≡ item_at xs at ∷ drop (suc at) xs
 drop-at xs at h = drop_more xs at (record { entry = []; to = 0 }) h ∙ ap (λ (k : ℕ). item_at xs at ∷ drop k xs) (add-one at)
 
 -- behind an entry, an item and the first of those after it
@@ -50,18 +50,18 @@ unfolding packed
 both-packed width before x xs =
     ap (λ (l : List ℕ). packed_item width before x ++ l) (pieces width x.entry xs) ∙ sym (append_assoc (packed_item width before x) (first_packed width x.entry xs) (rest_packed width xs))
 
-all-take : (P : Item → Type 0) (n : ℕ) (xs : List Item) → AllByRecursion P xs → AllByRecursion P (take n xs)
+pub all-take : (P : Item → Type 0) (n : ℕ) (xs : List Item) → AllByRecursion P xs → AllByRecursion P (take n xs)
 all-take P zero xs h = tt
 all-take P (suc n) [] h = tt
 all-take P (suc n) (x ∷ xs) h = (h.0, all-take P n xs h.1)
 
-all-drop : (P : Item → Type 0) (n : ℕ) (xs : List Item) → AllByRecursion P xs → AllByRecursion P (drop n xs)
+pub all-drop : (P : Item → Type 0) (n : ℕ) (xs : List Item) → AllByRecursion P xs → AllByRecursion P (drop n xs)
 all-drop P zero xs h = h
 all-drop P (suc n) [] h = tt
 all-drop P (suc n) (x ∷ xs) h = all-drop P n xs h.1
 
 -- the bytes of the items before a place, with a node's first child
-pub bytes_before : Content → ℕ → List ℕ
+unfoldable pub bytes_before : Content → ℕ → List ℕ
 bytes_before c at = first_bytes c.leaf c.first ++ packed (width c.leaf) [] (take at c.items)
 
 -- how many they are

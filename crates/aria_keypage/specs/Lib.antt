@@ -6,3 +6,4 @@ pub mod Content
 pub mod Reading
 pub mod Change
 pub mod Pair
+pub mod Halves

@@ -21,7 +21,7 @@ use std::alloc::{AllocError, Global};
 pub const FULL: usize = 8177;
 
 // As many leading bytes as an entry may take.
-fn capped(met: usize) -> usize
+pub(crate) fn capped(met: usize) -> usize
     ensures { result ≡ min 255 met }
 {
     if met < 255 { met } else { 255 }
@@ -29,14 +29,19 @@ fn capped(met: usize) -> usize
 
 // How many leading bytes an entry takes from the one before it.
 #[tactic(auto, unfolding(crate::specs::Packed::shared))]
-fn shared_of(before: &[u8], entry: &[u8]) -> u8
+pub(crate) fn shared_of(before: &[u8], entry: &[u8]) -> u8
     ensures { result ≡ shared before.now entry.now }
 {
     capped(common(before, entry)) as u8
 }
 
 // Adds what is stored of an entry behind another, and the bytes of where it leads.
-fn push_stored(out: &mut Vec<u8>, before: &[u8], entry: &[u8], to: &[u8]) -> Result<(), AllocError>
+pub(crate) fn push_stored(
+    out: &mut Vec<u8>,
+    before: &[u8],
+    entry: &[u8],
+    to: &[u8],
+) -> Result<(), AllocError>
     requires { length entry.now ≤ 1000 }
     ensures { IfOk result (λ _. (w n : ℕ) → to.now ≡ number w n → out.new.items ≡ out.old.items ++ packed_item w before.now (record { entry = entry.now; to = n })) }
 {

@@ -6,13 +6,18 @@
 //!
 //! The readers and `find` tell of that list. `find` takes no memory and puts no entry together. `insert`
 //! and `remove` give edits that make any page of the old list into one of the changed list, and `join` those
-//! that make it take over the items of the page to its right. `root_leaf` and `root_node` give whole bodies.
-//! Nothing here asks that the entries rise, which is the tree's affair.
+//! that make it take over the items of the page to its right. `split` divides the items of a page in the
+//! middle of their bytes, and `share` those of two pages side by side: a `Split` is the edits of the left page,
+//! the body of the right one and the entry between them. `root_leaf` and `root_node` give whole bodies.
+//!
+//! Nothing here asks that the entries rise, which is the tree's affair. A node's first child counts among its
+//! item bytes.
 #![tactic(auto)]
 
 mod change;
 mod count;
 mod find;
+mod halves;
 mod key_page;
 mod order;
 mod pair;
@@ -21,6 +26,7 @@ mod root;
 mod steps;
 
 pub use change::FULL;
+pub use halves::Split;
 pub use key_page::{KeyPage, LEAF, LOW, NODE};
 pub use raw::ENTRY_MAX;
 pub use root::{root_leaf, root_node};

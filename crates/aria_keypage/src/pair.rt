@@ -1,15 +1,17 @@
-//! Two pages side by side, and the page that takes both.
+//! Two pages side by side, and the page that takes all their items.
 
-ghost use Rattle.std.specs.Prelude.{◌≡◌, ◌+◌, ◌≤◌, ◌++◌, length, IfOk, IsTrue, ◌↔◌};
+ghost use Rattle.std.specs.Prelude.{◌≡◌, ℕ, ◌+◌, ◌≤◌, ◌++◌, List, length, IfOk, IsTrue, ◌↔◌};
 ghost use Rattle.std.specs.List.{sum_by};
-ghost use Rattle.aria_keypage.specs.Item.{entry_before};
-ghost use Rattle.aria_keypage.specs.Packed.{packed};
-ghost use Rattle.aria_keypage.specs.Content.{width, item_bytes};
+ghost use Rattle.aria_keypage.specs.Item.{item_at, entry_before};
+ghost use Rattle.aria_keypage.specs.Packed.{shared, packed};
+ghost use Rattle.aria_keypage.specs.Content.{width, item_bytes, IsContent};
 ghost use Rattle.aria_keypage.specs.Change.{Changes, edit_bytes};
 ghost use Rattle.aria_keypage.specs.Pair.{taken_over, joined};
 
-use crate::change::{patch, push_item};
+use crate::change::{FULL, capped, patch, push_item, shared_of};
+use crate::find::met_at;
 use crate::key_page::{KeyPage, width_of};
+use crate::raw::raw_at;
 use crate::steps::skip;
 use aria_page::{Edit, List};
 use std::alloc::{AllocError, Global};
@@ -28,7 +30,7 @@ impl<'a> KeyPage<'a> {
     }
 
     // Adds what the page takes over from the one to its right, behind an entry.
-    fn push_over(
+    pub(crate) fn push_over(
         &self,
         alloc: Global,
         before: &[u8],
@@ -36,13 +38,66 @@ impl<'a> KeyPage<'a> {
         out: &mut Vec<u8>,
     ) -> Result<(), AllocError>
         requires { length between.now ≤ 1000 }
-        ensures { IfOk result (λ _. out.new.items ≡ out.old.items ++ packed (width self.now.leaf) before.now (taken_over self.now.leaf between.now self.now.first self.now.items)) }
+        ensures bytes { IfOk result (λ _. out.new.items ≡ out.old.items ++ packed (width self.now.leaf) before.now (taken_over self.now.leaf between.now self.now.first self.now.items)) }
+        ensures content { IsContent self.now }
     {
         if self.leaf {
             return self.push_all(alloc, before, out);
         }
         push_item(out, false, before, between, self.first as u64)?;
         self.push_all(alloc, between, out)
+    }
+
+    // How many items the page to the left takes over.
+    pub(crate) fn count_over(&self) -> usize
+        ensures { (between : List ℕ) → result ≡ length (taken_over self.now.leaf between self.now.first self.now.items) }
+    {
+        if self.leaf {
+            return self.count;
+        }
+        self.count + 1
+    }
+
+    // The first entry; nothing where there is no item.
+    fn first_entry(&self) -> &'a [u8]
+        ensures { result.now ≡ (item_at self.now.items 0).entry }
+    {
+        let Some((raw, _)) = raw_at(self.items, width_of(self.leaf)) else {
+            return b"";
+        };
+        raw.rest
+    }
+
+    // How many leading bytes an entry behind the last one takes from that.
+    fn shared_behind(&self, entry: &[u8]) -> usize
+        ensures { result ≡ shared (entry_before self.now.items (length self.now.items)) entry.now }
+    {
+        let (met, _) = met_at(self.items, width_of(self.leaf), self.count, entry);
+        capped(met)
+    }
+
+    // The number of item bytes of the page with all items of the one to its right.
+    fn joined_size(&self, right: &KeyPage<'a>, between: &[u8]) -> usize
+        requires kinds { right.now.leaf ≡ self.now.leaf }
+        requires between { length between.now ≤ 1000 }
+        ensures { result ≡ length (item_bytes (joined self.now between.now right.now)) }
+    {
+        let both = self.size() + right.size();
+        let first = right.first_entry();
+        if self.leaf {
+            return both - self.shared_behind(first);
+        }
+        let whole = both + 3 + between.len() - self.shared_behind(between);
+        whole - shared_of(between, first) as usize
+    }
+
+    /// Whether all items of the page and of the one to its right fit in one page. Between nodes an entry comes down.
+    pub fn fits(&self, right: &KeyPage<'a>, between: &[u8]) -> bool
+        requires kinds { right.now.leaf ≡ self.now.leaf }
+        requires between { length between.now ≤ 1000 }
+        ensures { IsTrue result ↔ (length (item_bytes (joined self.now between.now right.now)) ≤ 8177) }
+    {
+        self.joined_size(right, between) <= FULL
     }
 
     /// The edits that make the page into one with all items of the one to its right. They bring at most 8179 bytes.
@@ -60,7 +115,6 @@ impl<'a> KeyPage<'a> {
         ensures bytes { IfOk result (λ edits. sum_by edit_bytes edits ≤ 8179) }
     {
         let size = self.size();
-        let content = right.size();
         let before = self.entry_before(alloc, self.count)?;
         let mut bytes = Vec::new(alloc);
         right.push_over(alloc, before.as_slice(), between, &mut bytes)?;

@@ -18,7 +18,12 @@ fn kind_of(leaf: bool) -> u8
 }
 
 // The body with these item bytes, and zeros behind them.
-fn whole_body(alloc: Global, leaf: bool, key: u8, bytes: &[u8]) -> Result<Bytes, AllocError>
+pub(crate) fn whole_body(
+    alloc: Global,
+    leaf: bool,
+    key: u8,
+    bytes: &[u8],
+) -> Result<Bytes, AllocError>
     requires { length bytes.now ≤ 8177 }
     ensures { (c : Content) → IsContent c → c.leaf ≡ leaf → c.key ≡ key → item_bytes c ≡ bytes.now → IfOk result (λ body. IsBody body c) }
 {

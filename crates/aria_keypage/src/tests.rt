@@ -1,5 +1,6 @@
 use super::*;
 use aria_page::{BODY_AT, Edit, List, Page, apply};
+use std::alloc::{AllocError, Global};
 use std::test::*;
 
 // The page whose body this is.
@@ -86,5 +87,103 @@ fn a_node_has_a_child_more_than_entries(rt: HostRuntime) -> Result<(), Fail> {
         return Err("a node with an item".into());
     }
     assert_eq!(rt; (view.first_child(), view.target_at(0)), (7, 9));
+    Ok(())
+}
+
+// The front of a page whose entries have 900 bytes, the first of which rises; each leads to that number.
+fn page_front(
+    alloc: Global,
+    head: &[u8],
+    leaf: bool,
+    first: u8,
+    end: u8,
+) -> Result<Vec<u8>, AllocError> {
+    let mut body = Vec::from_slice(alloc, head)?;
+    for n in first..end {
+        body.extend_from_slice(&[0, 0x03, 0x84, n])?;
+        body.extend_from_slice(&[0; 899])?;
+        if leaf {
+            body.push(0)?;
+        }
+        body.extend_from_slice(&[0, 0, 0, n])?;
+    }
+    Ok(body)
+}
+
+#[test]
+fn two_leaves_are_shared_where_they_do_not_fit_in_one(rt: HostRuntime) -> Result<(), Fail> {
+    let front = page_front(rt.alloc(), &[10, 0, 0x07, 0x18], true, 1, 3)?;
+    let mut page = page_of(front.as_slice());
+    let front = page_front(rt.alloc(), &[10, 0, 0x1c, 0x60], true, 3, 11)?;
+    let next = page_of(front.as_slice());
+    let left = KeyPage::view(&page).ok_or("a leaf")?;
+    let right = KeyPage::view(&next).ok_or("a leaf")?;
+    if !left.is_leaf() || !right.is_leaf() || !left.is_low() {
+        return Err("two leaves, the left one low".into());
+    }
+    if left.fits(&right, &[3]) {
+        return Err("they fit in one".into());
+    }
+    let split = left.share(rt.alloc(), &right, &[3])?;
+    assert!(rt; apply_all(&split.left, &mut page));
+    let five = page_front(rt.alloc(), &[10, 0, 0x11, 0xbc], true, 1, 6)?;
+    assert!(rt; page.body().starts_with(five.as_slice()));
+    let others = page_front(rt.alloc(), &[10, 0, 0x11, 0xbc], true, 6, 11)?;
+    assert!(rt; split.right.as_slice().starts_with(others.as_slice()));
+    assert!(rt; split.between.len() == 900 && split.between.as_slice().starts_with(&[6]));
+    Ok(())
+}
+
+#[test]
+fn two_leaves_are_joined_where_they_fit_in_one(rt: HostRuntime) -> Result<(), Fail> {
+    let front = page_front(rt.alloc(), &[10, 0, 0x07, 0x18], true, 1, 3)?;
+    let mut page = page_of(front.as_slice());
+    let front = page_front(rt.alloc(), &[10, 0, 0x18, 0xd4], true, 3, 10)?;
+    let next = page_of(front.as_slice());
+    let left = KeyPage::view(&page).ok_or("a leaf")?;
+    let right = KeyPage::view(&next).ok_or("a leaf")?;
+    if !left.is_leaf() || !right.is_leaf() || !left.fits(&right, &[3]) {
+        return Err("two leaves that fit in one".into());
+    }
+    let edits = left.join(rt.alloc(), &right, &[3])?;
+    assert!(rt; apply_all(&edits, &mut page));
+    let nine = page_front(rt.alloc(), &[10, 0, 0x1f, 0xec], true, 1, 10)?;
+    assert!(rt; page.body().starts_with(nine.as_slice()));
+    Ok(())
+}
+
+#[test]
+fn a_leaf_is_split_at_the_lower_of_two_places(rt: HostRuntime) -> Result<(), Fail> {
+    let front = page_front(rt.alloc(), &[10, 4, 0x0a, 0xa4], true, 1, 4)?;
+    let mut page = page_of(front.as_slice());
+    let view = KeyPage::view(&page).ok_or("a leaf")?;
+    if view.is_low() {
+        return Err("a page with items to split".into());
+    }
+    let split = view.split(rt.alloc())?;
+    assert!(rt; apply_all(&split.left, &mut page));
+    let one = page_front(rt.alloc(), &[10, 4, 0x03, 0x8c], true, 1, 2)?;
+    assert!(rt; page.body().starts_with(one.as_slice()));
+    let two = page_front(rt.alloc(), &[10, 4, 0x07, 0x18], true, 2, 4)?;
+    assert!(rt; split.right.as_slice().starts_with(two.as_slice()));
+    assert!(rt; split.between.len() == 900 && split.between.as_slice().starts_with(&[2]));
+    Ok(())
+}
+
+#[test]
+fn an_entry_goes_up_from_a_node(rt: HostRuntime) -> Result<(), Fail> {
+    let front = page_front(rt.alloc(), &[11, 4, 0x0a, 0xa5, 0, 0, 0, 9], false, 1, 4)?;
+    let mut page = page_of(front.as_slice());
+    let view = KeyPage::view(&page).ok_or("a node")?;
+    if view.is_low() {
+        return Err("a page with items to split".into());
+    }
+    let split = view.split(rt.alloc())?;
+    assert!(rt; apply_all(&split.left, &mut page));
+    let one = page_front(rt.alloc(), &[11, 4, 0x03, 0x8f, 0, 0, 0, 9], false, 1, 2)?;
+    assert!(rt; page.body().starts_with(one.as_slice()));
+    let last = page_front(rt.alloc(), &[11, 4, 0x03, 0x8f, 0, 0, 0, 2], false, 3, 4)?;
+    assert!(rt; split.right.as_slice().starts_with(last.as_slice()));
+    assert!(rt; split.between.len() == 900 && split.between.as_slice().starts_with(&[2]));
     Ok(())
 }

@@ -5,8 +5,8 @@ use Rattle.aria_keypage.proofs.Options.{ok-map}
 use Rattle.aria_keypage.proofs.Joined.{over-node}
 use Rattle.aria_keypage.proofs.key_page.KeyPage.push_over.Goals as goal
 
-pub returns : goal.returns
-returns c =
+pub returns-clause-bytes : goal.returns-clause-bytes
+returns-clause-bytes c =
     let d : Content = c.args.self.now in
     let leaf = sym (ap (λ (e : Content). e.leaf) c.self.view_is) ∙ c.if-self.false in
     let first = ap (λ (e : Content). e.first) c.self.view_is in
