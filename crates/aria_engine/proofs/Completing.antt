@@ -45,7 +45,7 @@ none_either log s lines after only is =
     nothing_moves s (λ content. HoldsEither content lines after) only (λ c leaves. inl (whole_from (c log_file) lines (log_images log s lines (length lines) is c leaves)))
 
 -- other files are none
-alone_after : (d c : Folder) → SameOthers d c → IsLogAlone d → IsLogAlone c
+pub alone_after : (d c : Folder) → SameOthers d c → IsLogAlone d → IsLogAlone c
 alone_after d c same alone f form other = same f other ∙ alone f form other
 
 alone_later : (old new : State) → ((c : Folder) → new.may_leave c → (d : Folder) × old.may_leave d × SameOthers d c) → AreLogAlone old → AreLogAlone new

@@ -7,3 +7,6 @@ pub mod Completing
 pub mod Spending
 pub mod Stepping
 pub mod Turning
+pub mod FirstOther
+pub mod Replaying
+pub mod Settling

@@ -4,3 +4,4 @@ pub mod Done
 pub mod Outcomes
 pub mod Turns
 pub mod Entries
+pub mod Opening
