@@ -111,12 +111,7 @@ fn run_session<H: Host, S: Source>(
 }
 
 // Runs the script that the input has left on an opened store.
-fn run_store<H: Host, S: Source>(
-    alloc: Global,
-    host: &mut H,
-    input: &mut S,
-    store: Store,
-) -> Ran
+fn run_store<H: Host, S: Source>(alloc: Global, host: &mut H, input: &mut S, store: Store) -> Ran
     requires fresh { IsFresh store }
     requires ready { IsReady H.tells store (H.state host.old) }
     ensures runs { RunsFrom S.tells H.tells

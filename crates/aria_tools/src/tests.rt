@@ -359,7 +359,10 @@ fn a_crash_before_a_sync_keeps_the_statement_or_loses_it(rt: HostRuntime) -> Res
     let torn = told_after_the_insert(rt.alloc(), Fate::Torn(torn_page()))?;
     assert_eq!(rt; torn.as_slice(), b"ok\nok 0\n".as_slice());
     let kept = told_after_the_insert(rt.alloc(), Fate::Kept)?;
-    assert_eq!(rt; kept.as_slice(), b"ok\nrow -1,5\nrow 2,20\nok 2\n".as_slice());
+    assert_eq!(rt;
+        kept.as_slice(),
+        b"ok\nrow -1,5\nrow 2,20\nok 2\n".as_slice()
+    );
     Ok(())
 }
 
@@ -474,20 +477,24 @@ fn survives_twice(alloc: Global, stop: u64, again: u64, kind: usize) -> Result<b
 fn a_crash_at_each_call_leaves_a_front(rt: HostRuntime) -> Result<(), Fail> {
     for stop in 0..16 {
         for kind in 0..8 {
-            assert!(rt; survives(rt.alloc(), stop, kind)?, "stopped at {stop}, fates {kind}");
+            assert!(rt;
+                survives(rt.alloc(), stop, kind)?,
+                "stopped at {stop}, fates {kind}"
+            );
         }
     }
     Ok(())
 }
 
 #[test]
-fn a_crash_at_each_call_of_the_next_opening_leaves_a_front(
-    rt: HostRuntime,
-) -> Result<(), Fail> {
+fn a_crash_at_each_call_of_the_next_opening_leaves_a_front(rt: HostRuntime) -> Result<(), Fail> {
     for stop in [7, 10, 13] {
         for again in 0..10 {
             for kind in 0..8 {
-                assert!(rt; survives_twice(rt.alloc(), stop, again, kind)?, "stopped at {stop}, then at {again}, fates {kind}");
+                assert!(rt;
+                    survives_twice(rt.alloc(), stop, again, kind)?,
+                    "stopped at {stop}, then at {again}, fates {kind}"
+                );
             }
         }
     }

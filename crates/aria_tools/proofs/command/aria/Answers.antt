@@ -60,8 +60,8 @@ returns-clause-error_text g c to =
     let told = c.end.ensures.told to in (
       told.0,
       text_is g.S.Source.tells g.H.Host.tells (supply (g.S.Source.left c.args.input.now) (g.S.Source.taken c.args.input.now) (g.S.Source.faults c.args.input.now))
-      (supply (g.S.Source.left c.run-ran.new.input) (g.S.Source.taken c.run-ran.new.input) (g.S.Source.faults c.run-ran.new.input))
-      c.run-ran.result.outcome c.end.result told.0 old mid c.run-ran.ensures.ends to told.1,
+          (supply (g.S.Source.left c.run-ran.new.input) (g.S.Source.taken c.run-ran.new.input) (g.S.Source.faults c.run-ran.new.input))
+          c.run-ran.result.outcome c.end.result told.0 old mid c.run-ran.ensures.ends to told.1,
       text_after told.0 old mid now (c.run-ran.ensures.silent to) c.run-ran.ensures.later.tell told.2,
     )
 

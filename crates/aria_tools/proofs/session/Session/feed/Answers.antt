@@ -12,8 +12,14 @@ pub loop-line-init : goal.loop-line-init
 loop-line-init g c = record {
   calm = record { disk = refl; tell = refl };
   ready = c.requires.ready;
-  fed = λ rest none held. ([], rest, refl, held, fed_none g.H.Host.tells rest c.args.self.now.store c.args.self.now.refused (g.H.Host.state c.args.host.now)
-      (ready_now g.H.Host.tells c.args.self.now.store (g.H.Host.state c.args.host.now) c.requires.ready (λ f t told since. g.met.H.Host.only_now c.args.host.now f t told since)) none);
+  fed = λ rest none held. (
+    [],
+    rest,
+    refl,
+    held,
+    fed_none g.H.Host.tells rest c.args.self.now.store c.args.self.now.refused (g.H.Host.state c.args.host.now)
+        (ready_now g.H.Host.tells c.args.self.now.store (g.H.Host.state c.args.host.now) c.requires.ready (λ f t told since. g.met.H.Host.only_now c.args.host.now f t told since)) none,
+  );
 }
 
 pub returns-in_err-end_line-clause-part : goal.returns-in_err-end_line-clause-part
