@@ -170,6 +170,18 @@ is_status 'standard output is closed' 7 $?
 is_error 'standard output is closed' ''
 has_rows 'an insert that could not be told' 1 1
 
+# The log doesn't come to stand in the place of a stream that is closed.
+cp "$log" whole
+(cd folder && exec ../aria run) <&- > told 2> error
+is_status 'standard input is closed, with a log' 6 $?
+(cd folder && exec ../aria run) < more.aria >&- 2>&-
+is_status 'both outputs are closed' 7 $?
+(cd folder && exec ../aria run) < "$room" > told 2>&-
+is_status 'standard error is closed' 6 $?
+(cd folder && exec ../aria run) <&- >&- 2>&-
+is_status 'all streams are closed' 6 $?
+cmp "$log" whole > difference 2>&1 || fail "streams that are closed: $(cat difference)"
+
 # input that is no text: each line that isn't blank is refused, and leaves nothing
 python3 -c '
 import random, sys

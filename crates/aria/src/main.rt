@@ -3,9 +3,23 @@
 
 use aria_host::{DirHost, StdSource};
 use aria_tools::{WordList, aria};
+use std::fs::File;
 use std::io::ErrorKind;
 use std::process::ExitCode;
 use std::{env, io};
+
+// A folder that can be opened. Reading it or writing to it as a file fails.
+const ROOT: &str = "/";
+
+// Takes the places of the standard streams that are closed. Else the files of the folder would come to stand there, and
+// what is told would be written into the log.
+fn take_places(rt: &HostRuntime) -> io::Result<[File; 3]> {
+    Ok([
+        File::open(rt, ROOT)?,
+        File::open(rt, ROOT)?,
+        File::open(rt, ROOT)?,
+    ])
+}
 
 // The words of the command line, without the program's name.
 fn read_words(rt: &HostRuntime) -> io::Result<WordList> {
@@ -16,24 +30,32 @@ fn read_words(rt: &HostRuntime) -> io::Result<WordList> {
     Ok(words)
 }
 
-// Words that are no text are bad words.
-fn report(rt: &HostRuntime, error: io::Error) -> u8 {
+// Ends with this status and line, or with want of memory where that is the error.
+fn report(rt: &HostRuntime, error: io::Error, status: u8, line: &str) -> u8 {
     if error.kind() == ErrorKind::OutOfMemory {
         let _ = eprintln!(rt; "aria: want of memory");
         return 3;
     }
-    let _ = eprintln!(rt; "aria: bad words");
-    2
+    let _ = eprintln!(rt; "{line}");
+    status
+}
+
+fn run(rt: &HostRuntime) -> u8 {
+    match read_words(rt) {
+        Ok(words) => {
+            let mut host = DirHost::new(rt);
+            let mut input = StdSource::new(rt);
+            aria(rt.alloc(), &words, &mut host, &mut input).status
+        }
+        // Words that are no text are bad words.
+        Err(error) => report(rt, error, 2, "aria: bad words"),
+    }
 }
 
 fn main(rt: HostRuntime) -> ExitCode {
-    let status = match read_words(&rt) {
-        Ok(words) => {
-            let mut host = DirHost::new(&rt);
-            let mut input = StdSource::new(&rt);
-            aria(rt.alloc(), &words, &mut host, &mut input).status
-        }
-        Err(error) => report(&rt, error),
+    let status = match take_places(&rt) {
+        Ok(_places) => run(&rt),
+        Err(error) => report(&rt, error, 4, "aria: disk fault"),
     };
     ExitCode::from(status)
 }
