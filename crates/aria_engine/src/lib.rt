@@ -21,3 +21,6 @@ mod turn;
 
 pub use outcome::Outcome;
 pub use store::Store;
+
+#[cfg(test)]
+mod tests;
