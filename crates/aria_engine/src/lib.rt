@@ -5,10 +5,14 @@
 //! told. At each moment a crash leaves the tables after some of the statements, among them each whose reply was told.
 //!
 //! A store that has answered a fault keeps it: each later call answers it and does nothing.
+//!
+//! An `Engine` is a store together with the reference to its host, for a program that embeds the tables. Its calls are
+//! the store's, and `close` and `into_host` hand the reference back.
 #![tactic(auto)]
 
 mod changing;
 mod complete;
+mod engine;
 mod execute;
 mod open;
 mod others;
@@ -19,6 +23,7 @@ mod store;
 mod tally;
 mod turn;
 
+pub use engine::Engine;
 pub use outcome::Outcome;
 pub use store::Store;
 
