@@ -148,7 +148,7 @@ fn go_on(alloc: Global, host: &mut MemHost, found: &[usize]) -> Result<Option<u6
 }
 
 // What the log of a folder is: its frames, where it isn't damaged.
-fn frames_of(alloc: Global, host: &mut MemHost) -> Result<Result<List<Bytes>, u32>, Fault> {
+fn frames_of(alloc: Global, host: &mut MemHost) -> Result<Result<List<Frame>, u32>, Fault> {
     match open(alloc, host)? {
         Opened::Sound(_, frames) => Ok(Ok(frames)),
         Opened::Damaged { page } => Ok(Err(page)),
