@@ -10,9 +10,9 @@ use std::test::Fail;
 fn with_room_a_tell_is_told(rt: HostRuntime) -> Result<(), Fail> {
     let mut host = MemHost::new(rt.alloc());
     host.reserve(3, 16)?;
-    host.tell(Stream::Out, b"ok\n")?;
-    host.tell(Stream::Err, b"aria: disk\n")?;
-    host.tell(Stream::Out, b"")?;
+    assert!(rt; matches!(host.tell(Stream::Out, b"ok\n"), Ok(())));
+    assert!(rt; matches!(host.tell(Stream::Err, b"aria: disk\n"), Ok(())));
+    assert!(rt; matches!(host.tell(Stream::Out, b""), Ok(())));
     assert_eq!(rt; host.told(Stream::Out), b"ok\n".as_slice());
     assert_eq!(rt; host.told(Stream::Err), b"aria: disk\n".as_slice());
     assert_eq!(rt; host.calls(), 3);
@@ -50,8 +50,8 @@ fn a_source_goes_on_after_a_read_that_failed(rt: HostRuntime) -> Result<(), Fail
 #[test]
 fn the_standard_streams_take_a_line(rt: HostRuntime) -> Result<(), Fail> {
     let mut host = DirHost::new(&rt);
-    host.tell(Stream::Out, b"told on standard output\n")?;
-    host.tell(Stream::Err, b"told on standard error\n")?;
+    assert!(rt; matches!(host.tell(Stream::Out, b"told on standard output\n"), Ok(())));
+    assert!(rt; matches!(host.tell(Stream::Err, b"told on standard error\n"), Ok(())));
     Ok(())
 }
 
@@ -107,7 +107,7 @@ fn use_files<H: Host>(host: &mut H, alloc: Global) -> Result<bool, Fault>
 fn the_current_folder_keeps_files(rt: HostRuntime) -> Result<(), Fail> {
     let mut host = DirHost::new(&rt);
     let _ = fs::remove_file(&rt, "aria_log.00000001");
-    assert!(rt; use_files(&mut host, rt.alloc())?);
+    assert!(rt; matches!(use_files(&mut host, rt.alloc()), Ok(true)));
     Ok(())
 }
 
