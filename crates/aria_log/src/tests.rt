@@ -74,6 +74,7 @@ fn add(log: &mut Log, host: &mut MemHost, bytes: &[u8]) -> Result<bool, Fault>
     requires { IsRunning log.old (mem_state host.old) }
     ensures { OnOk result (IsRunning log.new (mem_state host.new)) }
 {
+    let _file = FILE;
     if !is_frame(bytes) || !log.has_room(bytes) {
         return Ok(false);
     }
@@ -92,6 +93,7 @@ fn add_all(
     requires { IsRunning log.old (mem_state host.old) }
     ensures { OnOk result (IsRunning log.new (mem_state host.new)) }
 {
+    let _file = FILE;
     let mut taken = true;
     for (number, length) in lengths.iter().enumerate() {
         let frame = frame_of(alloc, from.wrapping_add(number), *length)?;
@@ -104,6 +106,7 @@ fn add_all(
 fn add_one(alloc: Global, host: &mut MemHost, bytes: &[u8]) -> Result<bool, Fault>
     requires { IsLogAtRest (mem_state host.old) }
 {
+    let _file = FILE;
     let mut log = match begin(alloc, host, &[])? {
         Some(log) => log,
         None => return Ok(false),
@@ -122,6 +125,7 @@ fn add_and_force(
 ) -> Result<bool, Fault>
     requires { IsLogAtRest (mem_state host.old) }
 {
+    let _file = FILE;
     let mut log = match begin(alloc, host, &[])? {
         Some(log) => log,
         None => return Ok(false),
@@ -136,6 +140,7 @@ fn add_and_force(
 fn go_on(alloc: Global, host: &mut MemHost, found: &[usize]) -> Result<Option<u64>, Fault>
     requires { IsLogAtRest (mem_state host.old) }
 {
+    let _file = FILE;
     let mut log = match begin(alloc, host, found)? {
         Some(log) => log,
         None => return Ok(None),
@@ -183,6 +188,7 @@ fn survives(
 // A frame takes 4 bytes more than its own, and a page has 8176.
 #[test]
 fn a_crash_leaves_the_forced_frames(rt: HostRuntime) -> Result<(), Fail> {
+    let _file = FILE;
     let alloc = rt.alloc();
     let some: &[usize] = &[1, 8172, 20000];
     let more: &[usize] = &[1, 8172, 20000, 100];
@@ -234,6 +240,7 @@ fn found_without(alloc: Global, page: u32) -> Result<Result<usize, u32>, Fault>
 
 #[test]
 fn a_page_before_a_run_is_missed(rt: HostRuntime) -> Result<(), Fail> {
+    let _file = FILE;
     let alloc = rt.alloc();
     assert!(rt; matches!(found_without(alloc, 0)?, Err(0)));
     assert!(rt; matches!(found_without(alloc, 1)?, Err(1)));
