@@ -1,0 +1,65 @@
+-- What stands in the control file, before and after its page is put.
+use Rattle.std.proofs.Common.{◌≡◌, inl, inr, ℕ, ◌-◌, Option, None, Some, List, [], ◌∷◌, ◌++◌, length, drop, take, replicate, refl, sym, ◌∙◌, ap, subst, arith, rules}
+use Rattle.std.specs.Prelude.{IsTrue, Result, Ok, Err, is_ok, OnOk, IsSome, slice_get, option_and_then}
+use Rattle.std.specs.Option.{option_map}
+use Rattle.std.proofs.lemmas.Option.{same_Some}
+use Rattle.aria_page.specs.Page.{zero_page, Sums}
+use Rattle.aria_host.specs.declared.file_name.FileName.TheVariants.{Control as ControlFile}
+use Rattle.aria_host.specs.Folder.{Folder, put_page, with_page}
+use Rattle.aria_host.specs.State.{State}
+use Rattle.aria_host.proofs.Files.{with_file-same}
+use Rattle.aria_control.specs.declared.control.Control.{Control}
+use Rattle.aria_control.specs.declared.found.Found.TheVariants.{Kept}
+use Rattle.aria_control.specs.ControlPage.{control_page, named_by, HasMagic, IsStorable}
+use Rattle.aria_control.specs.Found.{BeginsWith, IsBlank, Finds}
+use Rattle.aria_control.specs.Written.{Keeps}
+use Rattle.aria_control.proofs.Spelled.{named_again, magic_there, magic_not_zero}
+
+-- what holds once a call is done holds where it answers Ok
+pub on_ok : {T E : Type 0} (r : Result T E) (P : Type 0) → (IsTrue (is_ok r) → P) → OnOk r P
+on_ok (Ok x) P h = h refl
+on_ok (Err e) P h = search rules
+
+-- the page that is read at the front is the first one
+pub first_page : (content : Option (List (List ℕ))) (page : List ℕ) → option_and_then (λ pages. slice_get pages 0) content ≡ Some page → BeginsWith page content
+first_page None page e = absurd (cc)
+first_page (Some []) page e = absurd (cc)
+first_page (Some (p ∷ more)) page e = (more, ap (λ (q : List ℕ). Some (q ∷ more)) (same_Some p page e))
+
+-- a page put at the front
+put_first : (page : List ℕ) (pages : List (List ℕ)) → put_page 0 page pages ≡ page ∷ drop 1 pages
+unfolding put_page
+put_first page pages =
+    let none : 0 - length pages ≡ 0 = omega arith in
+    ap (λ (k : ℕ). take 0 pages ++ (replicate k zero_page ++ page ∷ drop 1 pages)) none
+
+-- a file whose first page has the magic isn't blank
+not_blank : (page : List ℕ) (content : Option (List (List ℕ))) → HasMagic page → BeginsWith page content → IsBlank content → ⊥
+not_blank page content magic (more, is) (inl absent) = let no : None ≡ Some (page ∷ more) = sym absent ∙ is in absurd (cc)
+not_blank page content magic (more, is) (inr (inl empty)) = let no : [] ≡ page ∷ more = same_Some [] (page ∷ more) (sym empty ∙ is) in absurd (cc)
+not_blank page content magic (more, is) (inr (inr zeros)) =
+    let same : page ∷ more ≡ zero_page ∷ [] = same_Some (page ∷ more) (zero_page ∷ []) (sym is ∙ zeros) in
+    magic_not_zero page magic (cc)
+
+-- the control is found where the file has its page in front
+found_kept : (control : Control) (page : List ℕ) (folder : Folder) → IsStorable control → page ≡ control_page control → Sums page → BeginsWith page (folder ControlFile) → Finds (Kept control) folder
+found_kept control page folder storable is sums first =
+    let magic : HasMagic page = subst (λ (l : List ℕ). HasMagic l) (sym is) (magic_there control) in
+    (page, record { first = first; some = not_blank page (folder ControlFile) magic first }, (magic, sums, sym (ap named_by is ∙ named_again control storable)))
+
+-- a file in which a page was put begins with it
+begins_put : (page : List ℕ) (content : Option (List (List ℕ))) → IsSome content → BeginsWith page (option_map (put_page 0 page) content)
+begins_put page None never = absurd (search rules)
+begins_put page (Some pages) yes' = (drop 1 pages, ap Some (put_first page pages))
+
+-- the control is found in the folder and in each image once its page was put and synced
+pub kept_everywhere : (control : Control) (page : List ℕ) (old new : State) → IsStorable control → page ≡ control_page control → Sums page → IsSome (old.folder ControlFile)
+    → new.folder ≡ with_page ControlFile 0 page old.folder → ((c : Folder) → new.may_leave c → c ControlFile ≡ new.folder ControlFile) → Keeps control new
+kept_everywhere control page old new storable is sums some folder durable =
+    let now : new.folder ControlFile ≡ option_map (put_page 0 page) (old.folder ControlFile) =
+    ap (λ (g : Folder). g ControlFile) folder ∙ with_file-same ControlFile (option_map (put_page 0 page) (old.folder ControlFile)) old.folder in
+    let begins : BeginsWith page (new.folder ControlFile) = subst (λ (o : Option (List (List ℕ))). BeginsWith page o) (sym now) (begins_put page (old.folder ControlFile) some) in
+    record {
+      now = found_kept control page new.folder storable is sums begins;
+      images = λ c leaves. found_kept control page c storable is sums (subst (λ (o : Option (List (List ℕ))). BeginsWith page o) (sym (durable c leaves)) begins);
+    }

@@ -1,0 +1,3 @@
+pub mod ControlPage
+pub mod Found
+pub mod Written

@@ -1,0 +1,25 @@
+//! Writes the control file.
+
+ghost use Rattle.std.specs.Prelude.{IsTrue, IsSome, OnOk, is_ok};
+ghost use Rattle.aria_host.specs.State.{LeavesOnly};
+ghost use Rattle.aria_host.specs.Calls.{HasDiskCause};
+ghost use Rattle.aria_control.specs.ControlPage.{control_page, IsStorable};
+ghost use Rattle.aria_control.specs.Written.{Puts, AtControl, Keeps};
+
+use crate::control::{Control, page_of};
+use aria_host::{Fault, FileName, Host};
+
+/// Puts these two on the control file's page, and brings the file to the disk. The file has to be there.
+///
+/// After an `Err` the page may be the one as it was or the new one, also in what a crash leaves.
+pub fn write<H: Host>(host: &mut H, control: &Control) -> Result<(), Fault>
+    requires { IsTrue H.tells → IsSome ((H.state host.old).folder FileName.Control) }
+    ensures puts { IsTrue H.tells → Puts (control_page control.now) (H.state host.old) (H.state host.new) (is_ok result) }
+    ensures moments { IsTrue H.tells → LeavesOnly (H.state host.old) (H.state host.new) (AtControl (control_page control.now) (H.state host.old)) }
+    ensures kept { IsTrue H.tells → IsStorable control.now → OnOk result (Keeps control.now (H.state host.new)) }
+    ensures cause { HasDiskCause (H.state host.old) (H.state host.new) result }
+{
+    let page = page_of(control);
+    host.write_page(&FileName::Control, 0, &page)?;
+    host.sync(&FileName::Control)
+}
