@@ -4,14 +4,13 @@ use Rattle.std.specs.Prelude.{IsTrue, Result, Ok, Err, is_ok, OnOk, IsSome, slic
 use Rattle.std.specs.Option.{option_map}
 use Rattle.std.proofs.lemmas.Option.{same_Some}
 use Rattle.aria_page.specs.Page.{zero_page, Sums}
-use Rattle.aria_host.specs.declared.file_name.FileName.TheVariants.{Control as ControlFile}
 use Rattle.aria_host.specs.Folder.{Folder, put_page, with_page}
 use Rattle.aria_host.specs.State.{State}
 use Rattle.aria_host.proofs.Files.{with_file-same}
 use Rattle.aria_control.specs.declared.control.Control.{Control}
 use Rattle.aria_control.specs.declared.found.Found.TheVariants.{Kept}
 use Rattle.aria_control.specs.ControlPage.{control_page, named_by, HasMagic, IsStorable}
-use Rattle.aria_control.specs.Found.{BeginsWith, IsBlank, Finds}
+use Rattle.aria_control.specs.Found.{control_file, Begins, BeginsWith, IsBlank, Finds}
 use Rattle.aria_control.specs.Written.{Keeps}
 use Rattle.aria_control.proofs.Spelled.{named_again, magic_there, magic_not_zero}
 
@@ -42,24 +41,32 @@ not_blank page content magic (more, is) (inr (inr zeros)) =
     magic_not_zero page magic (cc)
 
 -- the control is found where the file has its page in front
-found_kept : (control : Control) (page : List ℕ) (folder : Folder) → IsStorable control → page ≡ control_page control → Sums page → BeginsWith page (folder ControlFile) → Finds (Kept control) folder
+found_kept : (control : Control) (page : List ℕ) (folder : Folder) → IsStorable control → page ≡ control_page control → Sums page → BeginsWith page (folder control_file) → Finds (Kept control) folder
 found_kept control page folder storable is sums first =
     let magic : HasMagic page = subst (λ (l : List ℕ). HasMagic l) (sym is) (magic_there control) in
-    (page, record { first = first; some = not_blank page (folder ControlFile) magic first }, (magic, sums, sym (ap named_by is ∙ named_again control storable)))
+    (page, record { first = first; some = not_blank page (folder control_file) magic first }, (magic, sums, sym (ap named_by is ∙ named_again control storable)))
 
 -- a file in which a page was put begins with it
 begins_put : (page : List ℕ) (content : Option (List (List ℕ))) → IsSome content → BeginsWith page (option_map (put_page 0 page) content)
 begins_put page None never = absurd (search rules)
 begins_put page (Some pages) yes' = (drop 1 pages, ap Some (put_first page pages))
 
+-- the control is found once its page is put on a file that is there
+pub put_found : (control : Control) (page : List ℕ) → page ≡ control_page control → Sums page → IsStorable control → (folder : Folder) → IsSome (folder control_file)
+    → Finds (Kept control) (with_page control_file 0 (control_page control) folder)
+put_found control page is sums storable folder some =
+    let put : Folder = with_page control_file 0 (control_page control) folder in
+    let now : put control_file ≡ option_map (put_page 0 page) (folder control_file) =
+    with_file-same control_file (option_map (put_page 0 (control_page control)) (folder control_file)) folder ∙ ap (λ (l : List ℕ). option_map (put_page 0 l) (folder control_file)) (sym is) in
+    found_kept control page put storable is sums (subst (λ (o : Option (List (List ℕ))). BeginsWith page o) (sym now) (begins_put page (folder control_file) some))
+
+-- what is found depends on the control file alone where its page is good
+found_same : (control : Control) (a b : Folder) → b control_file ≡ a control_file → Finds (Kept control) a → Finds (Kept control) b
+found_same control a b same (page, begins, reads) = (page, subst (λ (o : Option (List (List ℕ))). Begins page o) (sym same) begins, reads)
+
 -- the control is found in the folder and in each image once its page was put and synced
-pub kept_everywhere : (control : Control) (page : List ℕ) (old new : State) → IsStorable control → page ≡ control_page control → Sums page → IsSome (old.folder ControlFile)
-    → new.folder ≡ with_page ControlFile 0 page old.folder → ((c : Folder) → new.may_leave c → c ControlFile ≡ new.folder ControlFile) → Keeps control new
-kept_everywhere control page old new storable is sums some folder durable =
-    let now : new.folder ControlFile ≡ option_map (put_page 0 page) (old.folder ControlFile) =
-    ap (λ (g : Folder). g ControlFile) folder ∙ with_file-same ControlFile (option_map (put_page 0 page) (old.folder ControlFile)) old.folder in
-    let begins : BeginsWith page (new.folder ControlFile) = subst (λ (o : Option (List (List ℕ))). BeginsWith page o) (sym now) (begins_put page (old.folder ControlFile) some) in
-    record {
-      now = found_kept control page new.folder storable is sums begins;
-      images = λ c leaves. found_kept control page c storable is sums (subst (λ (o : Option (List (List ℕ))). BeginsWith page o) (sym (durable c leaves)) begins);
-    }
+pub kept_everywhere : (control : Control) (old new : State) → Finds (Kept control) (with_page control_file 0 (control_page control) old.folder)
+    → new.folder ≡ with_page control_file 0 (control_page control) old.folder → ((c : Folder) → new.may_leave c → c control_file ≡ new.folder control_file) → Keeps control new
+kept_everywhere control old new found folder durable =
+    let now : Finds (Kept control) new.folder = subst (λ (g : Folder). Finds (Kept control) g) (sym folder) found in
+    record { now = now; images = λ c leaves. found_same control new.folder c (durable c leaves) now }

@@ -12,6 +12,10 @@ use Rattle.aria_control.specs.declared.reading.Content.{Content}
 use Rattle.aria_control.specs.declared.reading.Content.TheVariants.{Blank, Odd, Page}
 use Rattle.aria_control.specs.ControlPage.{named_by, HasMagic, IsStorable}
 
+-- the control file
+abbrev pub control_file : FileName
+control_file = ControlFile
+
 -- it is the control file
 abbrev pub is_control : FileName → Bool
 is_control ControlFile = true
@@ -51,11 +55,11 @@ Reads Fresh page = ⊥
 
 -- This is what the folder's control file is. Without a page other files decide, and else the first page does.
 abbrev pub Finds : Found → Folder → Type 0
-Finds Fresh folder = IsBlank (folder ControlFile) × (¬ HasOther folder)
-Finds (Damaged Missing) folder = IsBlank (folder ControlFile) × HasOther folder
-Finds (Damaged NotOurs) folder = (page : List ℕ) × Begins page (folder ControlFile) × Reads (Damaged NotOurs) page
-Finds (Damaged Checksum) folder = (page : List ℕ) × Begins page (folder ControlFile) × Reads (Damaged Checksum) page
-Finds (Kept control) folder = (page : List ℕ) × Begins page (folder ControlFile) × Reads (Kept control) page
+Finds Fresh folder = IsBlank (folder control_file) × (¬ HasOther folder)
+Finds (Damaged Missing) folder = IsBlank (folder control_file) × HasOther folder
+Finds (Damaged NotOurs) folder = (page : List ℕ) × Begins page (folder control_file) × Reads (Damaged NotOurs) page
+Finds (Damaged Checksum) folder = (page : List ℕ) × Begins page (folder control_file) × Reads (Damaged Checksum) page
+Finds (Kept control) folder = (page : List ℕ) × Begins page (folder control_file) × Reads (Kept control) page
 
 -- what it names can be stored
 abbrev pub IsFoundStorable : Found → Type 0

@@ -1,7 +1,10 @@
 //! What the control file's page names, and how it is spelled.
 
-ghost use Rattle.std.specs.Prelude.{◌≡◌, ◌+◌, ◌≤◌, ◌↔◌, take, drop, length, IsTrue};
+ghost use Rattle.std.specs.Prelude.{◌≡◌, ◌+◌, ◌≤◌, ◌↔◌, take, drop, length, IsTrue, IsSome};
 ghost use Rattle.aria_page.specs.Page.{Sums};
+ghost use Rattle.aria_host.specs.Folder.{Folder, with_page};
+ghost use Rattle.aria_control.specs.declared.found.Found.TheVariants.{Kept};
+ghost use Rattle.aria_control.specs.Found.{control_file, Finds};
 ghost use Rattle.aria_control.specs.ControlPage.{magic, control_page, named_by, HasMagic, IsStorable};
 
 use aria_page::{Lsn, Page, lsn_of};
@@ -51,6 +54,7 @@ pub(crate) fn page_of(control: &Control) -> Page
     ensures page { result ≡ control_page control.now }
     ensures sums { Sums result }
     ensures named { IsStorable control.now → named_by result ≡ control.now }
+    ensures found { IsStorable control.now → (folder : Folder) → IsSome (folder control_file) → Finds (Kept control.now) (with_page control_file 0 (control_page control.now) folder) }
     ensures one { (other : Control) → IsStorable control.now → IsStorable other → control_page other ≡ control_page control.now → other ≡ control.now }
 {
     let mut page = Page::zero();

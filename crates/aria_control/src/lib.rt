@@ -17,3 +17,6 @@ pub use control::Control;
 pub use found::{Damage, Found};
 pub use reading::read;
 pub use writing::write;
+
+#[cfg(test)]
+mod tests;

@@ -4,7 +4,7 @@ ghost use Rattle.std.specs.Prelude.{◌≡◌, ◌≤◌, ◌↔◌, ℕ, Option
 ghost use Rattle.std.specs.List.{list_any};
 ghost use Rattle.aria_page.specs.Page.{zero_page};
 ghost use Rattle.aria_host.specs.Calls.{HasDiskCause, HasDiskOrMemoryCause, Unchanged};
-ghost use Rattle.aria_control.specs.Found.{is_control, HasPages, BeginsWith, IsBlank, IsContent, Reads, Finds, IsFoundStorable};
+ghost use Rattle.aria_control.specs.Found.{control_file, is_control, HasPages, BeginsWith, IsBlank, IsContent, Reads, Finds, IsFoundStorable};
 
 use crate::control::{Control, has_magic, named_by, same_bytes};
 use crate::found::{Damage, Found};
@@ -42,8 +42,8 @@ fn content_on(pages: u32, page: &Page) -> Content
 
 // What stands in a file of so many pages.
 fn content_of<H: Host>(host: &mut H, pages: u32) -> Result<Content, Fault>
-    requires { IsTrue H.tells → HasPages pages ((H.state host.old).folder FileName.Control) }
-    ensures content { IsTrue H.tells → IfOk result (λ content. IsContent content ((H.state host.old).folder FileName.Control)) }
+    requires { IsTrue H.tells → HasPages pages ((H.state host.old).folder control_file) }
+    ensures content { IsTrue H.tells → IfOk result (λ content. IsContent content ((H.state host.old).folder control_file)) }
     ensures same { IsTrue H.tells → Unchanged (H.state host.old) (H.state host.new) }
     ensures cause { HasDiskCause (H.state host.old) (H.state host.new) result }
 {
@@ -57,7 +57,7 @@ fn content_of<H: Host>(host: &mut H, pages: u32) -> Result<Content, Fault>
 
 // What stands in the control file.
 fn take_content<H: Host>(host: &mut H) -> Result<Content, Fault>
-    ensures content { IsTrue H.tells → IfOk result (λ content. IsContent content ((H.state host.old).folder FileName.Control)) }
+    ensures content { IsTrue H.tells → IfOk result (λ content. IsContent content ((H.state host.old).folder control_file)) }
     ensures same { IsTrue H.tells → Unchanged (H.state host.old) (H.state host.new) }
     ensures cause { HasDiskCause (H.state host.old) (H.state host.new) result }
 {
@@ -83,7 +83,7 @@ fn has_others(names: &[FileName]) -> bool
 
 // What a folder without a control page is.
 fn without_page<H: Host>(alloc: Global, host: &mut H) -> Result<Found, Fault>
-    requires { IsTrue H.tells → IsBlank ((H.state host.old).folder FileName.Control) }
+    requires { IsTrue H.tells → IsBlank ((H.state host.old).folder control_file) }
     ensures found { IsTrue H.tells → IfOk result (λ found. Finds found (H.state host.old).folder) }
     ensures storable { IfOk result IsFoundStorable }
     ensures same { IsTrue H.tells → Unchanged (H.state host.old) (H.state host.new) }

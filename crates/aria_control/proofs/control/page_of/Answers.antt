@@ -1,6 +1,7 @@
 use Rattle.std.proofs.Common.{◌≡◌, ◌∙◌, refl, ap}
 use Rattle.aria_control.specs.ControlPage.{magic, control_page, named_by}
 use Rattle.aria_control.proofs.Spelled.{page_spelled, named_again, one_page}
+use Rattle.aria_control.proofs.Kept.{put_found}
 use Rattle.aria_control.proofs.control.page_of.Goals as goal
 
 pub returns-clause-page : goal.returns-clause-page
@@ -17,3 +18,6 @@ returns-clause-named c = λ storable.
 
 pub returns-clause-one : goal.returns-clause-one
 returns-clause-one c = λ other storable other_storable same. one_page c.args.control.now other storable other_storable same
+
+pub returns-clause-found : goal.returns-clause-found
+returns-clause-found c = put_found c.args.control.now c.sum.new.self (returns-clause-page c) c.sum.ensures.sums

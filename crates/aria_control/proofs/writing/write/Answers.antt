@@ -1,6 +1,7 @@
-use Rattle.std.proofs.Common.{refl, sym, ap, ◌∙◌}
-use Rattle.aria_host.specs.declared.file_name.FileName.TheVariants.{Control as ControlFile}
-use Rattle.aria_host.specs.Folder.{Folder}
+use Rattle.std.proofs.Common.{refl, sym, ap, ◌≡◌, ◌∙◌}
+use Rattle.aria_host.specs.Folder.{Folder, with_page}
+use Rattle.aria_control.specs.Found.{control_file}
+use Rattle.aria_control.specs.ControlPage.{control_page}
 use Rattle.aria_control.proofs.Kept.{on_ok, kept_everywhere}
 use Rattle.aria_control.proofs.writing.write.Goals as goal
 
@@ -8,7 +9,8 @@ pub returns-clause-kept : goal.returns-clause-kept
 returns-clause-kept g c = λ told storable.
     let old = g.H.Host.state c.args.host.now in
     let new = g.H.Host.state c.sync.new.self in
-    let writes = c.in_ok-write_page.ensures.written told in
     let syncs = c.sync.ensures.synced told in
-    on_ok c.sync.result _ (λ done. kept_everywhere c.args.control.now c.page_of-page.result old new storable c.page_of-page.ensures.page c.page_of-page.ensures.sums (c.requires told)
-    (syncs.folder ∙ writes.whole refl) (λ f leaves. syncs.durable done f leaves ∙ sym (ap (λ (g : Folder). g ControlFile) syncs.folder)))
+    let folder : new.folder ≡ with_page control_file 0 (control_page c.args.control.now) old.folder =
+    syncs.folder ∙ (c.in_ok-write_page.ensures.written told).whole refl ∙ ap (λ page. with_page control_file 0 page old.folder) c.page_of-page.ensures.page in
+    on_ok c.sync.result _ (λ done. kept_everywhere c.args.control.now old new (c.page_of-page.ensures.found storable old.folder (c.requires told)) folder
+    (λ f leaves. syncs.durable done f leaves ∙ sym (ap (λ (g : Folder). g control_file) syncs.folder)))
