@@ -126,3 +126,87 @@ impl<'a, H: Host> Engine<'a, H> {
         host
     }
 }
+
+#[cfg(test)]
+mod tests {
+    use super::Engine;
+    use aria_host::{Fault, FileName, Host, MemHost, Stream};
+    use aria_page::{List, Page};
+    use std::alloc::Global;
+    use std::test::Fail;
+
+    // Executes three lines.
+    fn execute<H: Host>(
+        alloc: Global,
+        engine: &mut Engine<'_, H>,
+        first: &[u8],
+        second: &[u8],
+        third: &[u8],
+    ) -> Result<(), Fault>
+        requires { IsTrue H.tells → engine.old.store.kept ≡ None → IsRunning engine.old.store (H.state engine.old.host.now) }
+        ensures { engine.new.host.ghost_name ≡ engine.old.host.ghost_name }
+    {
+        engine.execute(alloc, first)?;
+        engine.execute(alloc, second)?;
+        engine.execute(alloc, third)?;
+        Ok(())
+    }
+
+    // Executes three lines on an engine of its own, and hands the host back with what `close` answers.
+    fn run<'a>(
+        alloc: Global,
+        host: &'a mut MemHost,
+        first: &[u8],
+        second: &[u8],
+        third: &[u8],
+    ) -> (Result<(), Fault>, &'a mut MemHost) {
+        match Engine::open(alloc, host, 64, 1, false) {
+            Err((fault, host)) => (Err(fault), host),
+            Ok(mut engine) => {
+                let _ = execute(alloc, &mut engine, first, second, third);
+                engine.close(alloc)
+            }
+        }
+    }
+
+    #[test]
+    fn the_host_goes_on_behind_an_engine(rt: HostRuntime) -> Result<(), Fail> {
+        let alloc = rt.alloc();
+        let mut own = MemHost::new(alloc);
+        own.reserve(200, 200)?;
+        let (answer, host) = run(
+            alloc,
+            &mut own,
+            b"create t trans a:int b:int keys k(a)",
+            b"insert t (2,20)(1,10)",
+            b"select t k",
+        );
+        assert!(rt; answer.is_ok());
+        assert_eq!(rt;
+            host.told(Stream::Out),
+            b"ok\nok 2\nrow 1,10\nrow 2,20\nok 2\n".as_slice()
+        );
+        host.crash(&List::new(alloc))?;
+        host.reserve(200, 200)?;
+        let (answer, host) = run(alloc, host, b"insert t (3,30)", b"", b"select t k");
+        assert!(rt; answer.is_ok());
+        assert_eq!(rt;
+            host.told(Stream::Out),
+            b"ok\nok 2\nrow 1,10\nrow 2,20\nok 2\nok 1\nrow 1,10\nrow 2,20\nrow 3,30\nok 3\n".as_slice()
+        );
+        host.plan_fault(host.calls())?;
+        let (answer, host) = run(alloc, host, b"", b"", b"");
+        assert!(rt; matches!(answer, Err(Fault::Disk)));
+        host.set_page(&FileName::Log(2), 0, &Page::zero())?;
+        let (answer, _) = run(alloc, host, b"", b"", b"");
+        assert!(rt;
+            matches!(
+                answer,
+                Err(Fault::NotOurs {
+                    file: FileName::Log(2)
+                })
+            )
+        );
+        Ok(())
+    }
+}
