@@ -1,12 +1,17 @@
 -- Items that are stored one after another.
-use Rattle.std.proofs.Common.{◌≡◌, ℕ, zero, suc, ◌+◌, ◌-◌, ◌<◌, ◌≤◌, List, [], ◌∷◌, ◌++◌, length, Option, Some, None, refl, sym, ap, subst, ◌∙◌, append_assoc, arith}
+use Rattle.std.proofs.Common.{◌≡◌, ℕ, zero, suc, ◌+◌, ◌-◌, ◌^◌, ◌<◌, ◌≤◌, List, [], ◌∷◌, ◌++◌, length, Option, Some, None, refl, sym, ap, subst, ◌∙◌, append_assoc, arith}
 use Rattle.std.specs.List.{flat_map, AllByRecursion}
 use Rattle.std.proofs.lemmas.List.{append-nil}
 use Rattle.std.proofs.lemmas.List.Concat.{flat_map-cons}
 use Rattle.std.proofs.lemmas.Option.{same_Some}
 use Rattle.aria_page.specs.Field.{◌>>=◌, AreBytes, Takes}
+use Rattle.aria_page.specs.Number.{number, number_at}
+use Rattle.aria_page.specs.Text.{bytes_at}
 use Rattle.aria_page.proofs.Fields.{bind_some, Takes-then}
-use Rattle.aria_value.specs.Reading.{read_items}
+use Rattle.aria_page.proofs.Numbers.{number_takes, number_again}
+use Rattle.aria_page.proofs.Texts.{bytes_take, bytes_again}
+use Rattle.aria_value.specs.Stored.{list_bytes}
+use Rattle.aria_value.specs.Reading.{read_items, read_list, read_counted}
 
 -- a reader of an item
 abbrev pub Reader : Type 0 → Type 0
@@ -20,7 +25,7 @@ pub record Reads {A : Type 0} (spell : A → List ℕ) (Fits : A → Type 0) (re
 -- what is read of items
 pub record AreRead {A : Type 0} (spell : A → List ℕ) (Fits : A → Type 0) (n : ℕ) (bytes : List ℕ) (x : List A × List ℕ) : Type 0 where
   pub spelled : Takes bytes (flat_map spell x.0) x.1
-  pub number : length x.0 ≡ n
+  pub count : length x.0 ≡ n
   pub each : AllByRecursion Fits x.0
 
 pub items_take : {A : Type 0} (spell : A → List ℕ) (Fits : A → Type 0) (read : Reader A) → Reads spell Fits read
@@ -28,7 +33,7 @@ pub items_take : {A : Type 0} (spell : A → List ℕ) (Fits : A → Type 0) (re
 unfolding read_items
 items_take {A} spell Fits read laws zero bytes x fits e =
     let nothing : List A × List ℕ = ([], bytes) in
-    subst (λ (y : List A × List ℕ). AreRead spell Fits 0 bytes y) (same_Some nothing x e) (record { spelled = record { parts = refl; rest_bytes = fits }; number = refl; each = tt })
+    subst (λ (y : List A × List ℕ). AreRead spell Fits 0 bytes y) (same_Some nothing x e) (record { spelled = record { parts = refl; rest_bytes = fits }; count = refl; each = tt })
 items_take {A} spell Fits read laws (suc n) bytes x fits e =
     let a = bind_some (read bytes) (λ first. read_items read n first.1 >>= λ others. Some (first.0 ∷ others.0, others.1)) x e in
     let b = bind_some (read_items read n a.0.1) (λ others. Some (a.0.0 ∷ others.0, others.1)) x a.2 in
@@ -36,7 +41,7 @@ items_take {A} spell Fits read laws (suc n) bytes x fits e =
     let second = items_take spell Fits read laws n a.0.1 b.0 first.0.rest_bytes b.1 in
     let both = Takes-then bytes (spell a.0.0) a.0.1 (flat_map spell b.0.0) b.0.1 first.0 second.spelled in
     let made : List A × List ℕ = (a.0.0 ∷ b.0.0, b.0.1) in
-    subst (λ (y : List A × List ℕ). AreRead spell Fits (suc n) bytes y) (same_Some made x b.2) (record { spelled = rw flat_map-cons both; number = ap suc second.number; each = (first.1, second.each) })
+    subst (λ (y : List A × List ℕ). AreRead spell Fits (suc n) bytes y) (same_Some made x b.2) (record { spelled = rw flat_map-cons both; count = ap suc second.count; each = (first.1, second.each) })
 
 pub items_again : {A : Type 0} (spell : A → List ℕ) (Fits : A → Type 0) (read : Reader A) → Reads spell Fits read
     → (items : List A) (rest : List ℕ) → AllByRecursion Fits items → read_items read (length items) (flat_map spell items ++ rest) ≡ Some (items, rest)
@@ -45,6 +50,44 @@ items_again spell Fits read laws [] rest fits = refl
 items_again spell Fits read laws (a ∷ items) rest fits =
     let regrouped : flat_map spell (a ∷ items) ++ rest ≡ spell a ++ (flat_map spell items ++ rest) = ap (λ (x : List ℕ). x ++ rest) (flat_map-cons spell a items) ∙ append_assoc (spell a) (flat_map spell items) rest in
     ap (read_items read (suc (length items))) regrouped ∙ rw (laws.again a (flat_map spell items ++ rest) fits.0, items_again spell Fits read laws items rest fits.1) refl
+
+-- ---- items behind their number
+
+pub list_takes : {A : Type 0} (spell : A → List ℕ) (Fits : A → Type 0) (read : Reader A) → Reads spell Fits read
+    → (bytes : List ℕ) (x : List A × List ℕ) → AreBytes bytes → read_list read bytes ≡ Some x → Takes bytes (list_bytes spell x.0) x.1 × AllByRecursion Fits x.0
+unfolding read_list
+list_takes spell Fits read laws bytes x fits e =
+    let a = bind_some (number_at 1 bytes) (λ count. read_items read count.0 count.1) x e in
+    let first = number_takes 1 bytes a.0 fits a.1 in
+    let second = items_take spell Fits read laws a.0.0 a.0.1 x first.0.rest_bytes a.2 in
+    let both = Takes-then bytes (number 1 a.0.0) a.0.1 (flat_map spell x.0) x.1 first.0 second.spelled in
+    (subst (λ (n : ℕ). Takes bytes (number 1 n ++ flat_map spell x.0) x.1) (sym second.count) both, second.each)
+
+pub list_again : {A : Type 0} (spell : A → List ℕ) (Fits : A → Type 0) (read : Reader A) → Reads spell Fits read
+    → (items : List A) (rest : List ℕ) → length items < 256 → AllByRecursion Fits items → read_list read (list_bytes spell items ++ rest) ≡ Some (items, rest)
+unfolding read_list
+list_again spell Fits read laws items rest low fits =
+    ap (read_list read) (append_assoc (number 1 (length items)) (flat_map spell items) rest)
+    ∙ rw (number_again 1 (length items) (flat_map spell items ++ rest) low) (items_again spell Fits read laws items rest fits)
+
+-- ---- bytes behind their number
+
+pub counted_takes : (n : ℕ) (bytes : List ℕ) (x : List ℕ × List ℕ) → AreBytes bytes → read_counted n bytes ≡ Some x → Takes bytes (number n (length x.0) ++ x.0) x.1 × (length x.0 < 256 ^ n)
+unfolding read_counted
+counted_takes n bytes x fits e =
+    let a = bind_some (number_at n bytes) (λ count. bytes_at count.0 count.1) x e in
+    let first = number_takes n bytes a.0 fits a.1 in
+    let second = bytes_take a.0.0 a.0.1 x first.0.rest_bytes a.2 in
+    let both = Takes-then bytes (number n a.0.0) a.0.1 x.0 x.1 first.0 second.0 in
+    (subst (λ (k : ℕ). Takes bytes (number n k ++ x.0) x.1) (sym second.1) both, subst (λ (k : ℕ). k < 256 ^ n) (sym second.1) first.1)
+
+pub counted_again : (n : ℕ) (text rest : List ℕ) → length text < 256 ^ n → read_counted n ((number n (length text) ++ text) ++ rest) ≡ Some (text, rest)
+unfolding read_counted
+counted_again n text rest low =
+    ap (read_counted n) (append_assoc (number n (length text)) text rest)
+    ∙ rw (number_again n (length text) (text ++ rest) low, bytes_again (length text) text rest refl) refl
+
+-- ---- items read in a loop
 
 -- what was read before, and what is still read
 abbrev pub with_front : {A : Type 0} → List A → Option (List A × List ℕ) → Option (List A × List ℕ)

@@ -23,10 +23,10 @@ use Rattle.aria_value.specs.declared.definition.Definition.{Definition}
 use Rattle.aria_value.specs.Order.{key_columns}
 use Rattle.aria_value.specs.Stored.{value_bytes, row_bytes, value_length, row_length, text_length}
 use Rattle.aria_value.specs.Rows.{may_hold, may_hold_all, is_row, Fits, IsRow}
-use Rattle.aria_value.specs.Reading.{read_items, read_int, read_text, read_value, read_row}
-use Rattle.aria_value.proofs.Items.{Reads, items_take, items_again}
+use Rattle.aria_value.specs.Reading.{read_items, read_int, read_counted, read_value, read_row}
+use Rattle.aria_value.proofs.Items.{Reads, items_take, items_again, counted_takes, counted_again}
 
--- ---- numbers and texts
+-- ---- numbers
 
 int_takes : (bytes : List ℕ) (x : ℤ × List ℕ) → AreBytes bytes → read_int bytes ≡ Some x → Takes bytes (number 8 (cast_unsigned w64 x.0)) x.1 × FitsSigned w64 x.0
 unfolding read_int
@@ -44,22 +44,6 @@ unfolding read_int
 int_again n rest fits =
     let low : cast_unsigned w64 n < 2 ^ 64 = (facts.Fits-of_z fits).fits in
     rw (number_again 8 (cast_unsigned w64 n) rest low, to_z-of_z w64 n fits) refl
-
-text_takes : (bytes : List ℕ) (x : List ℕ × List ℕ) → AreBytes bytes → read_text bytes ≡ Some x → Takes bytes (number 4 (length x.0) ++ x.0) x.1 × (length x.0 < 2 ^ 32)
-unfolding read_text
-text_takes bytes x fits e =
-    let a = bind_some (number_at 4 bytes) (λ len. bytes_at len.0 len.1) x e in
-    let first = number_takes 4 bytes a.0 fits a.1 in
-    let second = bytes_take a.0.0 a.0.1 x first.0.rest_bytes a.2 in
-    let both = Takes-then bytes (number 4 a.0.0) a.0.1 x.0 x.1 first.0 second.0 in
-    let low : a.0.0 < 2 ^ 32 = first.1 in
-    (subst (λ (n : ℕ). Takes bytes (number 4 n ++ x.0) x.1) (sym second.1) both, omega (arith, low, second.1))
-
-text_again : (text rest : List ℕ) → length text < 2 ^ 32 → read_text ((number 4 (length text) ++ text) ++ rest) ≡ Some (text, rest)
-unfolding read_text
-text_again text rest low =
-    ap read_text (append_assoc (number 4 (length text)) text rest)
-    ∙ rw (number_again 4 (length text) (text ++ rest) low, bytes_again (length text) text rest refl) refl
 
 -- ---- values
 
@@ -84,8 +68,8 @@ value_takes (suc zero ∷ bytes) x fits e =
     let made : Value × List ℕ = (Int a.0.0, a.0.1) in
     subst (λ (y : Value × List ℕ). Takes (1 ∷ bytes) (value_bytes y.0) y.1 × Stores y.0) (same_Some made x a.2) (behind 1 bytes (number 8 (cast_unsigned w64 a.0.0)) a.0.1 t.0, record { fits = t.1; text = lit< tt })
 value_takes (suc (suc zero) ∷ bytes) x fits e =
-    let a = bind_some (read_text bytes) (λ text. Some (Text text.0, text.1)) x e in
-    let t = text_takes bytes a.0 (AreBytes-rest 2 bytes fits) a.1 in
+    let a = bind_some (read_counted 4 bytes) (λ text. Some (Text text.0, text.1)) x e in
+    let t = counted_takes 4 bytes a.0 (AreBytes-rest 2 bytes fits) a.1 in
     let made : Value × List ℕ = (Text a.0.0, a.0.1) in
     subst (λ (y : Value × List ℕ). Takes (2 ∷ bytes) (value_bytes y.0) y.1 × Stores y.0) (same_Some made x a.2) (behind 2 bytes (number 4 (length a.0.0) ++ a.0.0) a.0.1 t.0, record { fits = tt; text = t.1 })
 value_takes (suc (suc (suc kind)) ∷ bytes) x fits e = absurd cc
@@ -94,7 +78,7 @@ value_again : (v : Value) (rest : List ℕ) → Stores v → read_value (value_b
 unfolding read_value
 value_again Null rest stores = refl
 value_again (Int n) rest stores = rw (int_again n rest stores.fits) refl
-value_again (Text bytes) rest stores = rw (text_again bytes rest stores.text) refl
+value_again (Text bytes) rest stores = rw (counted_again 4 bytes rest stores.text) refl
 
 values_read : Reads value_bytes Stores read_value
 values_read = record { takes = value_takes; again = value_again }

@@ -1,13 +1,14 @@
 -- Which definitions there are.
 use Rattle.std.specs.Prelude.{ℕ, zero, suc, ◌+◌, ◌*◌, Bool, true, not, ◌&&◌, nat_lt, nat_le, ◌==◌, List, [], ◌∷◌, length, sum_by, IsTrue}
-use Rattle.std.specs.List.{list_all, list_any}
+use Rattle.std.specs.List.{list_all, list_any, AllByRecursion}
 use Rattle.std.specs.Cmp.Lexicographic.{pointwise}
+use Rattle.aria_page.specs.Word.{is_word}
 use Rattle.aria_value.specs.declared.definition.ColumnType.{ColumnType}
 use Rattle.aria_value.specs.declared.definition.ColumnType.TheVariants.{Int, Text}
 use Rattle.aria_value.specs.declared.definition.Column.{Column}
 use Rattle.aria_value.specs.declared.definition.Key.{Key}
 use Rattle.aria_value.specs.declared.definition.Definition.{Definition}
-use Rattle.aria_value.specs.Order.{order_columns}
+use Rattle.aria_value.specs.Order.{key_columns, order_columns}
 
 -- two names are one
 abbrev pub same_name : List ℕ → List ℕ → Bool
@@ -28,6 +29,10 @@ kind_at (column ∷ columns) (suc n) = kind_at columns n
 abbrev pub longest_part : ColumnType → ℕ
 longest_part Int = 9
 longest_part (Text n) = 2 * n + 3
+
+-- the longest parts of a key's own columns together, in bytes
+abbrev pub longest_parts : Definition → ℕ → ℕ
+longest_parts d key = sum_by (λ c. longest_part (kind_at d.columns c)) (key_columns d.keys key)
 
 -- the longest entry of a key, in bytes
 abbrev pub longest_entry : Definition → ℕ → ℕ
@@ -52,6 +57,12 @@ abbrev pub entries_fit : Definition → ℕ → Bool
 entries_fit d zero = true
 entries_fit d (suc n) = entries_fit d n && nat_le (longest_entry d n) 1000
 
+-- whether a table may have the definition
+abbrev pub is_definition : Definition → Bool
+is_definition d =
+    nat_le 1 d.max_rows && nat_le d.max_rows 16777216 && are_columns d.columns && list_all (λ column. is_type column.kind) d.columns
+    && are_keys d.columns d.keys && entries_fit d (length d.keys)
+
 -- a definition that a table may have
 pub record IsDefinition (d : Definition) : Type 0 where
   pub rows : IsTrue (nat_le 1 d.max_rows && nat_le d.max_rows 16777216)
@@ -59,3 +70,8 @@ pub record IsDefinition (d : Definition) : Type 0 where
   pub types : IsTrue (list_all (λ column. is_type column.kind) d.columns)
   pub keys : IsTrue (are_keys d.columns d.keys)
   pub entries : IsTrue (entries_fit d (length d.keys))
+
+-- each name is a word, as every Name is
+pub record HasNames (d : Definition) : Type 0 where
+  pub columns : AllByRecursion (λ column. IsTrue (is_word column.name)) d.columns
+  pub keys : AllByRecursion (λ key. IsTrue (is_word key.name)) d.keys

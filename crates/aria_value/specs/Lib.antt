@@ -1,5 +1,5 @@
 pub mod Order
 pub mod Stored
 pub mod Rows
-pub mod Reading
 pub mod Defined
+pub mod Reading

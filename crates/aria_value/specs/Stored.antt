@@ -1,10 +1,16 @@
--- How rows are stored.
+-- How rows and definitions are stored.
 use Rattle.std.specs.Prelude.{ℕ, ◌+◌, List, [], ◌∷◌, ◌++◌, length, sum_by}
 use Rattle.std.specs.List.{flat_map}
 use Rattle.std.specs.Int.{w64, cast_unsigned}
 use Rattle.aria_page.specs.Number.{number}
+use Rattle.aria_page.specs.Text.{name_bytes}
 use Rattle.aria_value.specs.declared.value.Value.{Value}
 use Rattle.aria_value.specs.declared.value.Value.TheVariants.{Null, Int, Text}
+use Rattle.aria_value.specs.declared.definition.ColumnType.{ColumnType}
+use Rattle.aria_value.specs.declared.definition.ColumnType.TheVariants as types
+use Rattle.aria_value.specs.declared.definition.Column.{Column}
+use Rattle.aria_value.specs.declared.definition.Key.{Key}
+use Rattle.aria_value.specs.declared.definition.Definition.{Definition}
 
 -- a byte for the kind; 8 bytes of a number, in two's complement; 4 bytes of length and the bytes of a text
 abbrev pub value_bytes : Value → List ℕ
@@ -31,3 +37,24 @@ abbrev pub text_length : Value → ℕ
 text_length Null = 0
 text_length (Int n) = 0
 text_length (Text bytes) = length bytes
+
+-- a byte for the type, and 4 bytes with the limit of a text, which are 0 for a number
+abbrev pub type_bytes : ColumnType → List ℕ
+type_bytes types.Int = number 1 0 ++ number 4 0
+type_bytes (types.Text limit) = number 1 1 ++ number 4 limit
+
+-- its name and its type
+abbrev pub column_bytes : Column → List ℕ
+column_bytes column = name_bytes column.name ++ type_bytes column.kind
+
+-- its name, a byte with the number of its columns, and a byte for each of them
+abbrev pub key_bytes : Key → List ℕ
+key_bytes key = name_bytes key.name ++ (number 1 (length key.columns) ++ key.columns)
+
+-- a byte with the number of items, and the items
+abbrev pub list_bytes : {A : Type 0} → (A → List ℕ) → List A → List ℕ
+list_bytes spell items = number 1 (length items) ++ flat_map spell items
+
+-- the columns, the keys, and 4 bytes with the most rows
+abbrev pub definition_bytes : Definition → List ℕ
+definition_bytes d = list_bytes column_bytes d.columns ++ (list_bytes key_bytes d.keys ++ number 4 d.max_rows)

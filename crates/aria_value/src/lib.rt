@@ -2,17 +2,20 @@
 //!
 //! A `Value` is null, a whole number or a text, a `Row` a list of values, and a `Definition` says which
 //! columns and keys a table has. `encode_row` gives the bytes of a stored row (docs/FORMATS.md, "Rows"), and
-//! `decode_row` the row of a definition that bytes spell. Bytes that spell no row are `None`, whatever they
-//! are, and the only failure is want of memory.
+//! `decode_row` the row of a definition that bytes spell. `encode_definition` and `decode_definition` do so
+//! for definitions (docs/FORMATS.md, "Definitions"). Bytes that spell none are `None`, whatever they are, and
+//! the only failure is want of memory.
 //!
 //! `specs/Order.antt` has the order of values and the order that a key gives to rows, `specs/Defined.antt`
-//! which definitions there are, `specs/Rows.antt` which rows a definition has, and `specs/Stored.antt` how
-//! they are stored.
+//! which definitions there are, `specs/Rows.antt` which rows a definition has, `specs/Stored.antt` how they are
+//! stored, and `specs/Reading.antt` how they are read.
 #![tactic(auto)]
 
+mod defined;
 mod definition;
 mod row;
 mod row_of;
+mod stored;
 mod value;
 
 pub use definition::{
@@ -20,6 +23,7 @@ pub use definition::{
     MAX_TEXT_BYTES,
 };
 pub use row::{decode_row, encode_row};
+pub use stored::{decode_definition, encode_definition};
 pub use value::{MAX_ROW_BYTES, Row, Value};
 
 #[cfg(test)]

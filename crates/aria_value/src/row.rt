@@ -6,7 +6,7 @@ ghost use Rattle.aria_page.specs.Field.{Gives};
 ghost use Rattle.aria_value.specs.declared.value.Value.{Value as AnyValue};
 ghost use Rattle.aria_value.specs.Stored.{value_bytes, row_bytes, row_length, text_length};
 ghost use Rattle.aria_value.specs.Rows.{IsRow};
-ghost use Rattle.aria_value.specs.Reading.{read_items, read_int, read_text, read_value, read_row};
+ghost use Rattle.aria_value.specs.Reading.{read_counted, read_items, read_int, read_value, read_row};
 
 use crate::definition::Definition;
 use crate::row_of::is_row;
@@ -60,9 +60,9 @@ fn int_at(bytes: &[u8]) -> Option<(i64, &[u8])>
     Some((n.cast_signed(), rest))
 }
 
-#[tactic(auto, unfolding(crate::specs::Reading::read_text))]
+#[tactic(auto, unfolding(crate::specs::Reading::read_counted))]
 fn text_at(bytes: &[u8]) -> Option<(&[u8], &[u8])>
-    ensures { Gives (λ x. (x.0.now, x.1.now)) result (read_text bytes.now) }
+    ensures { Gives (λ x. (x.0.now, x.1.now)) result (read_counted 4 bytes.now) }
 {
     let (len, rest) = u32_at(bytes)?;
     bytes_at(rest, len as usize)

@@ -123,3 +123,97 @@ fn a_stored_row_has_at_most_65536_bytes(rt: HostRuntime) -> Result<(), AllocErro
     }
     Ok(())
 }
+
+// The definition of the columns id and name with a key on each, and up to 16777216 rows.
+const STORED: [u8; 34] = [
+    2, 2, 0x69, 0x64, 0, 0, 0, 0, 0, 4, 0x6E, 0x61, 0x6D, 0x65, 1, 0, 0, 0, 20, 2, 2, 0x6B, 0x31,
+    1, 0, 2, 0x6B, 0x32, 1, 1, 1, 0, 0, 0,
+];
+
+fn spells_a_definition(alloc: Global, bytes: &[u8]) -> Result<bool, AllocError> {
+    Ok(decode_definition(alloc, bytes)?.is_some())
+}
+
+fn is_last_key(keys: &[Key], columns: &[u8]) -> bool {
+    match keys.last() {
+        Some(key) => key.columns.as_slice() == columns,
+        None => false,
+    }
+}
+
+#[test]
+fn a_definition_is_stored_part_by_part(rt: HostRuntime) -> Result<(), AllocError> {
+    let alloc = rt.alloc();
+    match decode_definition(alloc, &STORED)? {
+        None => assert!(rt; false),
+        Some(definition) => {
+            assert_eq!(rt; definition.columns.len(), 2);
+            assert_eq!(rt; definition.columns.as_slice()[1].kind, ColumnType::Text(20));
+            assert_eq!(rt; definition.keys.len(), 2);
+            assert!(rt; is_last_key(definition.keys.as_slice(), &[1]));
+            assert_eq!(rt; definition.max_rows, MAX_ROWS);
+            let bytes = encode_definition(alloc, &definition)?;
+            assert_eq!(rt; bytes.as_slice(), STORED.as_slice());
+        }
+    }
+    Ok(())
+}
+
+// The bytes with one of them changed.
+fn with_byte(at: usize, byte: u8) -> [u8; 34] {
+    let mut bytes = STORED;
+    if at < bytes.len() {
+        bytes[at] = byte;
+    }
+    bytes
+}
+
+#[test]
+fn bytes_that_spell_a_definition_and_others(rt: HostRuntime) -> Result<(), AllocError> {
+    let alloc = rt.alloc();
+    for (at, byte, is_good) in [
+        (34, 0, true),
+        // another name, and a text of 276 bytes
+        (2, b'_', true),
+        (17, 1, true),
+        // no rows, and one too many
+        (30, 0, false),
+        (33, 1, false),
+        // numbers of columns and keys
+        (0, 1, false),
+        (19, 1, false),
+        // the name of a column is no word, and the length of a name
+        (2, b'1', false),
+        (1, 3, false),
+        // no such type, and a number with a limit
+        (4, 2, false),
+        (8, 1, false),
+        // a text of 0 bytes, and one of 65556
+        (18, 0, false),
+        (16, 1, false),
+        // two keys of a name
+        (27, b'1', false),
+        // no such column, and a key without columns
+        (29, 2, false),
+        (28, 0, false),
+    ] {
+        assert_eq!(rt; spells_a_definition(alloc, &with_byte(at, byte))?, is_good);
+    }
+    assert!(rt; !spells_a_definition(alloc, &STORED[..33])?);
+    assert!(rt; !spells_a_definition(alloc, &[])?);
+    Ok(())
+}
+
+// The longest entry of k2 is that of a name, 2 * 494 + 3 bytes, and that of an id, 9 bytes.
+#[test]
+fn an_entry_has_at_most_1000_bytes(rt: HostRuntime) -> Result<(), AllocError> {
+    let alloc = rt.alloc();
+    for (limit, is_good) in [(494_u16, true), (495, false)] {
+        let mut bytes = STORED;
+        let [high, low] = limit.to_be_bytes();
+        bytes[17] = high;
+        bytes[18] = low;
+        assert_eq!(rt; spells_a_definition(alloc, &bytes)?, is_good);
+    }
+    Ok(())
+}

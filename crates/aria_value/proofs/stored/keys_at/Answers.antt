@@ -1,0 +1,18 @@
+use Rattle.std.proofs.Common.{◌≡◌, ◌++◌, ◌∷◌, []}
+use Rattle.aria_value.specs.Reading.{read_key, read_items}
+use Rattle.aria_value.proofs.Items.{goes_on, ends, is_done}
+use Rattle.aria_value.proofs.stored.keys_at.Goals as goal
+
+pub returns-in-None : goal.returns-in-None
+returns-in-None c =
+    let none = rw c.in-None.is at c.in_ok-key_at.ensures in
+    ends read_key c.loop.keys c.args.count c.loop.counter c.loop.rest.now (read_items read_key c.args.count c.args.bytes.now) c.loop-test.true none c.loop.invariant
+
+pub loop-preserved : goal.loop-preserved
+loop-preserved c =
+    let some = rw c.in-Some.is at c.in_ok-key_at.ensures in
+    let more : c.push.new.self ≡ c.loop.keys ++ c.in-Some.key ∷ [] = c.in_ok-push-in-Some.ensures.ok in
+    rw more (goes_on read_key c.loop.keys c.args.count c.loop.counter c.loop.rest.now c.in-Some.key c.in-Some.after.now (read_items read_key c.args.count c.args.bytes.now) c.loop-test.true some c.loop.invariant)
+
+pub returns : goal.returns
+returns c = is_done read_key c.loop.keys c.args.count c.loop.counter c.loop.rest.now (read_items read_key c.args.count c.args.bytes.now) c.loop-test.false c.loop.invariant
