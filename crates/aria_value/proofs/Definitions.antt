@@ -1,5 +1,5 @@
 -- Which definitions there are.
-use Rattle.std.proofs.Common.{◌≡◌, ◌≢◌, ℕ, zero, suc, ◌+◌, ◌*◌, ◌<◌, ◌≤◌, Bool, true, false, ◌&&◌, nat_le, List, [], ◌∷◌, ◌++◌, length, get_or, refl, sym, ap, ◌∙◌, subst, arith, inl, inr}
+use Rattle.std.proofs.Common.{◌≡◌, ◌≢◌, ℕ, zero, suc, ◌+◌, ◌*◌, ◌<◌, ◌≤◌, true, false, ◌&&◌, nat_le, List, [], ◌∷◌, length, get_or, refl, sym, ap, ◌∙◌, subst, arith, inl, inr}
 use Rattle.std.specs.List.{sum_by, list_all, AllByRecursion}
 use Rattle.std.proofs.Math.Bool.{and-false}
 use Rattle.std.proofs.lemmas.Bool.{cases_lt, lt-leb, le-leb, leb-true, and_parts}
@@ -9,7 +9,7 @@ use Rattle.aria_value.specs.declared.definition.ColumnType.TheVariants.{Int, Tex
 use Rattle.aria_value.specs.declared.definition.Column.{Column}
 use Rattle.aria_value.specs.declared.definition.Key.{Key}
 use Rattle.aria_value.specs.declared.definition.Definition.{Definition}
-use Rattle.aria_value.specs.Order.{key_columns, order_columns}
+use Rattle.aria_value.specs.Order.{key_columns}
 use Rattle.aria_value.specs.Defined.{kind_at, longest_part, longest_parts, longest_entry, are_columns, is_type, are_keys, entries_fit, is_definition, IsDefinition}
 
 -- ---- columns and keys by their numbers

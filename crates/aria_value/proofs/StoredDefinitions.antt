@@ -1,7 +1,7 @@
 -- A definition that is read is the one that was stored, and what was stored is read again.
-use Rattle.std.proofs.Common.{◌≡◌, ℕ, zero, suc, ◌+◌, ◌^◌, ◌<◌, ◌≤◌, Bool, true, false, ◌&&◌, nat_le, cond, eqb, List, [], ◌∷◌, ◌++◌, length, Option, Some, None, Result, Ok, Err, refl, sym, ap, subst, ◌∙◌, append_assoc, arith, lit<}
+use Rattle.std.proofs.Common.{◌≡◌, ℕ, zero, suc, ◌^◌, ◌<◌, true, ◌&&◌, nat_le, cond, eqb, List, [], ◌∷◌, ◌++◌, length, Option, Some, None, Result, Ok, Err, refl, sym, ap, subst, ◌∙◌, append_assoc, arith, lit<}
 use Rattle.std.specs.Prelude.{IsTrue, IfSome, IfOk}
-use Rattle.std.specs.List.{flat_map, list_all, AllByRecursion}
+use Rattle.std.specs.List.{list_all, AllByRecursion}
 use Rattle.std.proofs.lemmas.Bool.{eqb-true, leb-true, and_parts}
 use Rattle.std.proofs.lemmas.List.{append-nil, nil_from_length}
 use Rattle.std.proofs.lemmas.Option.{same_Some, cond_some}
@@ -18,7 +18,7 @@ use Rattle.aria_value.specs.declared.definition.Column.{Column}
 use Rattle.aria_value.specs.declared.definition.Key.{Key}
 use Rattle.aria_value.specs.declared.definition.Definition.{Definition}
 use Rattle.aria_value.specs.Stored.{type_bytes, column_bytes, key_bytes, list_bytes, definition_bytes}
-use Rattle.aria_value.specs.Defined.{same_name, distinct, is_type, are_columns, are_keys, is_key, is_definition, IsDefinition, HasNames}
+use Rattle.aria_value.specs.Defined.{same_name, distinct, is_type, is_key, is_definition, IsDefinition, HasNames}
 use Rattle.aria_value.specs.Reading.{type_of, read_type, read_column, read_counted, read_key, read_list, read_parts, read_definition}
 use Rattle.aria_value.proofs.Items.{Reads, list_takes, list_again, counted_takes, counted_again}
 use Rattle.aria_value.proofs.Definitions.{AllKeysFew, keys_few, definition_is, is_definition_of}

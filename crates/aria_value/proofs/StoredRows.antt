@@ -1,5 +1,5 @@
 -- A row that is read is the row that was stored, and what was stored is read again.
-use Rattle.std.proofs.Common.{◌≡◌, ℕ, ℤ, zero, suc, ◌+◌, ◌^◌, ◌<◌, ◌≤◌, true, ◌&&◌, cond, eqb, List, [], ◌∷◌, ◌++◌, length, Option, Some, None, Result, Ok, Err, refl, sym, ap, subst, ◌∙◌, append_assoc, arith, lit<, nat_le}
+use Rattle.std.proofs.Common.{◌≡◌, ℕ, ℤ, zero, suc, ◌+◌, ◌^◌, ◌<◌, ◌≤◌, true, ◌&&◌, cond, eqb, List, [], ◌∷◌, ◌++◌, length, Option, Some, None, Result, Ok, Err, refl, sym, ap, subst, ◌∙◌, arith, lit<, nat_le}
 use Rattle.std.specs.Prelude.{FitsSigned, IfSome, IfOk}
 use Rattle.std.specs.List.{list_any, AllByRecursion}
 use Rattle.std.specs.Int.{w64, cast_signed, cast_unsigned}
@@ -12,10 +12,8 @@ use Rattle.std.proofs.lemmas.List.Sums.{sum_by-cons}
 use Rattle.std.proofs.lemmas.Option.{same_Some, cond_some}
 use Rattle.aria_page.specs.Field.{AreBytes, Takes}
 use Rattle.aria_page.specs.Number.{number, number_at}
-use Rattle.aria_page.specs.Text.{bytes_at}
-use Rattle.aria_page.proofs.Fields.{AreBytes-rest, bind_some, Takes-then}
+use Rattle.aria_page.proofs.Fields.{AreBytes-rest, bind_some}
 use Rattle.aria_page.proofs.Numbers.{length-number, number_takes, number_again}
-use Rattle.aria_page.proofs.Texts.{bytes_take, bytes_again}
 use Rattle.aria_value.specs.declared.value.Value.{Value}
 use Rattle.aria_value.specs.declared.value.Value.TheVariants.{Null, Int, Text}
 use Rattle.aria_value.specs.declared.definition.Column.{Column}

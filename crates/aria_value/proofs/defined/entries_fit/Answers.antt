@@ -1,4 +1,4 @@
-use Rattle.std.proofs.Common.{◌≡◌, ℕ, ◌<◌, true, false, nat_le, length, sym, arith, rules}
+use Rattle.std.proofs.Common.{◌≡◌, ◌<◌, true, false, nat_le, length, sym, arith}
 use Rattle.aria_value.specs.Defined.{longest_entry}
 use Rattle.aria_value.proofs.Definitions.{entries_fail, entries_more}
 use Rattle.aria_value.proofs.defined.entries_fit.Goals as goal

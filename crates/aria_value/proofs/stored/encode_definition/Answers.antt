@@ -1,4 +1,4 @@
-use Rattle.std.proofs.Common.{ℕ, ◌<◌, length}
+use Rattle.std.proofs.Common.{◌<◌, length}
 use Rattle.std.proofs.lemmas.List.Elements.{All-from_recursion}
 use Rattle.aria_value.specs.declared.definition.Key.{Key}
 use Rattle.aria_value.proofs.Definitions.{keys_few}
