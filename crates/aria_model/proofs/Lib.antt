@@ -3,4 +3,4 @@ pub mod Scripts
 pub mod Clipping
 pub mod OneLine
 pub mod Acknowledged
-pub mod Journal
+mod Worked

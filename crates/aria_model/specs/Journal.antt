@@ -4,18 +4,31 @@ use Rattle.aria_model.specs.declared.refusal.Refusal.{Refusal}
 use Rattle.aria_model.specs.declared.refusal.Exception.{Exception}
 use Rattle.aria_model.specs.declared.refusal.Met.{Met}
 use Rattle.aria_model.specs.declared.reply.Reply.{Reply}
+use Rattle.aria_model.specs.declared.reply.Reply.TheVariants.{Done, Count, No}
 use Rattle.aria_model.specs.declared.statement.Statement.{Statement}
-use Rattle.aria_model.specs.declared.statement.Statement.TheVariants.{Create, Insert, Select}
+use Rattle.aria_model.specs.declared.statement.Statement.TheVariants.{Create, Insert, Delete, Update, Select, Drop, Flush, Checkpoint}
 use Rattle.aria_model.specs.Grammar.{read_line}
 use Rattle.aria_model.specs.World.{World}
 use Rattle.aria_model.specs.Step.{option_suc, perform, step}
 use Rattle.aria_model.specs.Script.{is_refused}
 
--- A statement with this reply changed the tables: it is of a kind that changes them, and was accepted.
+-- rows were concerned
+abbrev pub concerns_some : Reply → Bool
+concerns_some Done = false
+concerns_some (Count n) = not (n == 0)
+concerns_some (No why) = false
+
+-- A statement with this reply changed the tables: it is of a kind that changes them, was accepted, and a delete or an
+-- update concerned a row.
 abbrev pub changes : Statement → Reply → Bool
-changes (Create name definition) reply = not (is_refused reply)
+changes (Create name plain definition) reply = not (is_refused reply)
 changes (Insert name rows) reply = not (is_refused reply)
-changes (Select name key) reply = false
+changes (Delete name key sought) reply = concerns_some reply
+changes (Update name key sought settings) reply = concerns_some reply
+changes (Select name key sought) reply = false
+changes (Drop name) reply = not (is_refused reply)
+changes (Flush name) reply = false
+changes Checkpoint reply = false
 
 -- the same of a line of which this was read
 abbrev pub changes_read : World → Result (Option Statement) Refusal → Option Exception → Bool
