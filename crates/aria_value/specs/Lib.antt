@@ -3,3 +3,4 @@ pub mod Stored
 pub mod Rows
 pub mod Defined
 pub mod Reading
+pub mod ValueOrder
