@@ -1,53 +1,25 @@
--- Rows by the number of their first key.
-use Rattle.std.specs.Prelude.{ℕ, ℤ, Bool, true, false, ◌&&◌, nat_lt, List, [], ◌∷◌, length}
+-- Rows by the values of their first key.
+use Rattle.std.specs.Prelude.{ℕ, Bool, List, map}
 use Rattle.std.specs.List.{list_all}
-use Rattle.std.specs.Ordering.{int_eq}
+use Rattle.std.specs.Ordering.{is_eq}
+use Rattle.std.specs.declared.cmp.Ordering.{Ordering}
+use Rattle.std.specs.Cmp.Lexicographic.{slice_cmp}
 use Rattle.aria_value.specs.declared.value.Value.{Value}
-use Rattle.aria_value.specs.declared.value.Value.TheVariants as values
-use Rattle.aria_value.specs.declared.definition.ColumnType.{ColumnType}
-use Rattle.aria_value.specs.declared.definition.ColumnType.TheVariants as kinds
-use Rattle.aria_value.specs.declared.definition.Column.{Column}
-use Rattle.aria_value.specs.declared.definition.Key.{Key}
 use Rattle.aria_value.specs.declared.definition.Definition.{Definition}
-use Rattle.aria_value.specs.Defined.{kind_at}
-use Rattle.aria_value.specs.Order.{value_at, key_columns}
+use Rattle.aria_value.specs.Order.{value_cmp, value_at, key_columns}
 
--- the first of some columns, and column 0 where there are none
-abbrev pub first_or_zero : List ℕ → ℕ
-first_or_zero [] = 0
-first_or_zero (c ∷ cs) = c
+-- lists of values by the first in which they differ; a list that begins another comes first
+abbrev pub values_cmp : List Value → List Value → Ordering
+values_cmp = slice_cmp value_cmp
 
--- the first column of the first key
-abbrev pub key_column : Definition → ℕ
-key_column d = first_or_zero (key_columns d.keys 0)
+-- the values of a row in some columns
+abbrev pub values_in : List ℕ → List Value → List Value
+values_in columns row = map (value_at row) columns
 
--- the column holds numbers
-abbrev pub is_int : ColumnType → Bool
-is_int kinds.Int = true
-is_int (kinds.Text limit) = false
+-- the row has these values in the columns of the first key
+abbrev pub has_key : Definition → List Value × List Value → Bool
+has_key d entry = is_eq (values_cmp entry.0 (values_in (key_columns d.keys 0) entry.1))
 
--- one column, which the table has and which holds numbers
-abbrev pub is_number_key : List Column → List ℕ → Bool
-is_number_key columns [] = false
-is_number_key columns (c ∷ []) = nat_lt c (length columns) && is_int (kind_at columns c)
-is_number_key columns (c ∷ d ∷ cs) = false
-
--- one key, of one column of numbers
-abbrev pub are_number_keys : List Column → List Key → Bool
-are_number_keys columns [] = false
-are_number_keys columns (key ∷ []) = is_number_key columns key.columns
-are_number_keys columns (key ∷ other ∷ keys) = false
-
--- the definition has one key, of one column of numbers
-abbrev pub has_number_key : Definition → Bool
-has_number_key d = are_number_keys d.columns d.keys
-
--- the value is this number
-abbrev pub is_number : ℤ → Value → Bool
-is_number k values.Null = false
-is_number k (values.Int n) = int_eq n k
-is_number k (values.Text bytes) = false
-
--- each row stands at the number that it has in the key's column
-abbrev pub are_keyed : Definition → List (ℤ × List Value) → Bool
-are_keyed d entries = list_all (λ e. is_number e.0 (value_at e.1 (key_column d))) entries
+-- each row stands at its values in the columns of the first key
+abbrev pub are_keyed : Definition → List (List Value × List Value) → Bool
+are_keyed d entries = list_all (has_key d) entries

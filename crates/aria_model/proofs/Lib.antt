@@ -3,4 +3,3 @@ pub mod Scripts
 pub mod Clipping
 pub mod OneLine
 pub mod Acknowledged
-mod Worked
