@@ -5,6 +5,7 @@
 #![tactic(auto)]
 
 mod insert;
+mod row_key;
 mod rows;
 mod select;
 mod tables;

@@ -1,0 +1,80 @@
+ghost use Rattle.std.specs.Prelude.{◌≡◌, refl};
+ghost use Rattle.std.specs.Cmp.{eq_by_cmp_equiv, partial_equiv_from_equiv, po};
+ghost use Rattle.std.specs.Cmp.Lexicographic.{lists_total};
+ghost use Rattle.std.specs.Ordering.{as_partial_cmp, eq_by_cmp};
+ghost use Rattle.aria_value.specs.ValueOrder.{value_total};
+ghost use Rattle.aria_memory.specs.Keyed.{values_cmp};
+
+use aria_page::List;
+use aria_value::Value;
+use std::cmp::Ordering;
+use std::marker::Model;
+
+/// The values of a row in the columns of a key. Contracts see the list of them. The first of two keys is the one with
+/// the lesser value in the first column in which they differ.
+#[derive(Drop)]
+pub struct RowKey {
+    values: List<Value>,
+}
+
+impl Model for RowKey {
+    ghost use Rattle.std.specs.Prelude.{List};
+    ghost use Rattle.aria_value.specs.declared.value.Value.{Value as Part};
+
+    ghost Value = { List Part };
+
+    ghost view = { λ k. k.values };
+}
+
+impl RowKey {
+    /// The key of these values.
+    pub(crate) fn new(values: List<Value>) -> RowKey
+        ensures { result ≡ values }
+    {
+        RowKey { values }
+    }
+
+    pub(crate) fn as_slice(&self) -> &[Value]
+        ensures { result.now ≡ self.now }
+    {
+        self.values.as_slice()
+    }
+}
+
+impl PartialEq for RowKey {
+    ghost eq = { eq_by_cmp values_cmp };
+
+    ghost laws = { partial_equiv_from_equiv (eq_by_cmp_equiv (lists_total value_total)) };
+
+    fn eq(&self, other: &RowKey) -> bool {
+        self.cmp(other).is_eq()
+    }
+}
+
+impl Eq for RowKey {
+    ghost laws = { eq_by_cmp_equiv (lists_total value_total) };
+}
+
+impl Ord for RowKey {
+    ghost cmp = { values_cmp };
+
+    ghost total = { lists_total value_total };
+
+    ghost matches_partial_cmp = { λ _ _. refl };
+
+    ghost matches_eq = { λ _ _. refl };
+
+    fn cmp(&self, other: &RowKey) -> Ordering {
+        self.as_slice().cmp(other.as_slice())
+    }
+}
+
+impl PartialOrd for RowKey {
+    ghost partial_cmp = { as_partial_cmp values_cmp };
+
+    ghost laws = { po (lists_total value_total) (λ _ _. refl) };
+
+    fn partial_cmp(&self, other: &RowKey) -> Option<Ordering> {
+        Some(self.cmp(other))
+    }
+}
