@@ -189,7 +189,9 @@ numbers = random.Random(1)
 sys.stdout.buffer.write(bytes(numbers.getrandbits(8) for _ in range(500000)))' > noise
 runs 'no text' 1 '' noise run
 LC_ALL=C grep -a -c $'[^ \t\r]' noise > wanted_count
-yes 'no not built' | head -n "$(cat wanted_count)" > wanted
+yes 'no bad statement at' | head -n "$(cat wanted_count)" > wanted
+mv told told_at
+sed 's/ [0-9]*$//' told_at > told
 tells 'no text' wanted
 [[ ! -s $log ]] || fail 'no text: the log has lines'
 
@@ -200,7 +202,7 @@ tells 'no text' wanted
     printf '\nselect t k\n'
 } > long.aria
 runs 'a line of 2,000,000 bytes' 1 '' long.aria run
-tells_text 'a line of 2,000,000 bytes' $'ok\nno not built\nok 0\n'
+tells_text 'a line of 2,000,000 bytes' $'ok\nno line too long\nok 0\n'
 {
     printf '%1048576s\n' ''
     printf '%1048577s\n' ''
@@ -208,7 +210,7 @@ tells_text 'a line of 2,000,000 bytes' $'ok\nno not built\nok 0\n'
     printf '%-1048577s\n' 'insert t (1,7)'
 } > limit.aria
 runs 'lines as long as may be and longer' 1 '' limit.aria run
-tells_text 'lines as long as may be and longer' $'no not built\nok\nno not built\n'
+tells_text 'lines as long as may be and longer' $'no line too long\nok\nno line too long\n'
 has_rows 'a line as long as may be' 1 0
 
 # many rows
@@ -257,7 +259,7 @@ rows=$(grep -c '^row' told)
     printf '\nselect t k\n'
 } > too_many.aria
 runs '65,537 rows in one statement' 1 '' too_many.aria run
-tells_text '65,537 rows in one statement' $'ok\nno not built\nok 0\n'
+tells_text '65,537 rows in one statement' $'ok\nno too many rows\nok 0\n'
 
 # many statements
 {
@@ -294,9 +296,33 @@ tells_text 'the third run' $'ok\nok 1\nno duplicate k\nok 0\nok 2\n'
 has_rows 'the fourth run' 1 3
 printf 'select u n\ncreate t trans id:int keys k (id)\n' > more.aria
 goes_on 'the fifth run' 1 '' more.aria run
-tells_text 'the fifth run' $'row -1\nrow 5\nok 2\nno not built\n'
+tells_text 'the fifth run' $'row -1\nrow 5\nok 2\nno table exists t\n'
 goes_on 'a run of nothing' 0 '' /dev/null run
 has_rows 'the last run' 1 3
+
+# changes of every kind, and the next run
+cat > changes.aria <<'E'
+create t trans id:int v:text(5) keys k (id) l (v)
+insert t (1,'a') (2,null) (3,'''')
+delete t l (null)
+delete t l (null)
+update t k (3) set v=x'00ff', id=-3
+update t k (-3) set v='no row'
+update t l ('a') set id=7
+create u trans n:int keys n (n)
+drop u
+drop u
+checkpoint
+flush t
+E
+runs 'changes of every kind' 1 '' changes.aria run
+tells_text 'changes of every kind' \
+    $'ok\nok 3\nok 1\nok 0\nok 1\nno bad value v\nok 1\nok\nok\nno table u\nok\nok\n'
+printf 'select t l\nselect u n\n' > more.aria
+goes_on 'the run after changes of every kind' 1 '' more.aria run
+tells_text 'the run after changes of every kind' $'row -3,x\'00ff\'\nrow 7,\'a\'\nok 2\nno table u\n'
+[[ $(stat -c %s "$log") -eq $((7 * 8192)) ]] ||
+    fail 'changes of every kind: the log has not a page for each line that changed the tables'
 
 # The log as docs/FORMATS.md has it. write_log RUN..: makes it of these runs, each of one or more lines.
 write_log() {
@@ -390,6 +416,10 @@ damaged_line() {
 line=${create%$'\n'}
 damaged_line 'a select in the log' 1 "$line" 'select t k'
 damaged_line 'a line that is refused' 2 "$line" 'insert t (1,1)' 'insert t (1,2)' 'insert t (2,2)'
+damaged_line 'a delete that concerns no row' 1 "$line" 'delete t k'
+damaged_line 'an update that concerns no row' 2 "$line" 'insert t (1,1)' 'update t k (2) set v=1'
+damaged_line 'a drop of no table' 1 "$line" 'drop u'
+damaged_line 'a checkpoint in the log' 1 "$line" 'checkpoint'
 damaged_line 'no statement' 0 'frob'
 damaged_line 'a blank line' 1 "$line" ' '
 damaged_line 'the second line of a run' 0 "$line"$'\nselect t k'
