@@ -4,7 +4,6 @@ use Rattle.std.specs.List.{list_all, list_any}
 use Rattle.aria_value.specs.declared.value.Value.{Value}
 use Rattle.aria_value.specs.declared.value.Value.TheVariants as values
 use Rattle.aria_value.specs.declared.definition.ColumnType.TheVariants as kinds
-use Rattle.aria_value.specs.declared.definition.Column.{Column}
 use Rattle.aria_value.specs.declared.definition.Definition.{Definition}
 use Rattle.aria_value.specs.declared.definition.ColumnType.{ColumnType}
 use Rattle.aria_value.specs.declared.definition.Key.{Key}

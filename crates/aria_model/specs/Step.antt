@@ -281,7 +281,7 @@ update world name key sought settings exception = on_table world name (λ table.
     by_key world table.definition key sought (unknown_column table.definition.columns settings)
     (λ number. first_of (bad_value (bad_setting table.definition settings) ∷ too_many (concerned table.definition number sought rows) ∷ spent_for table exception ∷ []))
     (λ number. inserted world name table (length (concerned table.definition number sought rows))
-        (set_all table.definition settings exception 1 rows (concerned table.definition number sought rows)))))
+    (set_all table.definition settings exception 1 rows (concerned table.definition number sought rows)))))
 
 -- the table is removed, crashed or not
 abbrev pub drop : World → List ℕ → Option Exception → Outcome
