@@ -11,11 +11,10 @@ use Rattle.aria_model.specs.declared.refusal.Exception.TheVariants.{Spent}
 use Rattle.aria_model.specs.declared.reply.Reply.{Reply}
 use Rattle.aria_model.specs.declared.reply.Reply.TheVariants.{Done, Count, No}
 use Rattle.aria_model.specs.declared.statement.Statement.{Statement}
-use Rattle.aria_model.specs.declared.statement.Statement.TheVariants.{Create, Insert, Select}
 use Rattle.aria_model.specs.Token.{is_blank, tokens}
 use Rattle.aria_model.specs.Grammar.{read_line, is_blank_line, statement, ◌>>=◌}
 use Rattle.aria_model.specs.World.{World}
-use Rattle.aria_model.specs.Step.{Outcome, answered, built_reply, step, perform}
+use Rattle.aria_model.specs.Step.{Outcome, answered, step, perform}
 use Rattle.aria_model.specs.Script.{is_refused, outcome_text, acknowledged}
 use Rattle.aria_model.specs.Journal.{changes, changes_read}
 use Rattle.aria_model.specs.Text.{row_text, reply_text, IsOneLine}
@@ -27,6 +26,7 @@ use Rattle.aria_engine.specs.Store.{tables_of, pages_of}
 use Rattle.aria_engine.specs.Turns.{exception_of, spent_of, Notes, MayNote, Turned, Passed}
 use Rattle.aria_model.proofs.Acknowledged.{statement_counts}
 use Rattle.aria_model.proofs.Journal.{spelled_length}
+use Rattle.aria_model.proofs.Kept.{changes-refused, changes-accepted}
 use Rattle.aria_engine.proofs.Spending.{met_free, met_full, accepted_free, changes_room}
 
 -- what is read of a line that is short enough or not, of blanks alone or not, and spells a statement or none
@@ -65,25 +65,6 @@ refused_line line why h = refused_reading (nat_le (length line) 1048576) (list_a
 pub passed : (line : List ℕ) (before now : Store) → read_line line ≡ Ok None → now.log ≡ before.log → now.tally ≡ before.tally → tables_of now ≡ tables_of before → Passed line before now
 passed line before now read log tally world = record { blank = blank_line line read; log = log; tally = tally; world = world }
 
--- the step of a line of which this was read
-abbrev stepped : World → Result (Option Statement) Refusal → Option Exception → Outcome
-stepped world read exception = let outcome = answered world read exception in record outcome { reply = built_reply outcome.reply }
-
-built_refused : (reply : Reply) → is_refused (built_reply reply) ≡ is_refused reply
-built_refused Done = refl
-built_refused (Count n) = refl
-built_refused (No why) = refl
-
-changes_is : (s : Statement) (reply : Reply) → is_refused reply ≡ true → changes s reply ≡ false
-changes_is (Create name d) reply is = ap not is
-changes_is (Insert name rows) reply is = ap not is
-changes_is (Select name key) reply is = refl
-
-accepted_of : (s : Statement) (reply : Reply) → changes s reply ≡ true → not (is_refused reply) ≡ true
-accepted_of (Create name d) reply is = is
-accepted_of (Insert name rows) reply is = is
-accepted_of (Select name key) reply is = absurd (cc)
-
 -- A statement was performed, and its reply stands behind its rows.
 pub turned : (line : List ℕ) (s : Statement) (before now : Store) (rows : List ℕ) (reply : Reply) (refused changed : Bool)
     → read_line line ≡ Ok (Some s)
@@ -91,7 +72,7 @@ pub turned : (line : List ℕ) (s : Statement) (before now : Store) (rows : List
     → (changes s reply ≡ false → tables_of now ≡ tables_of before)
     → now.log ≡ before.log
     → Notes before.tally now.tally (exception_of (spent_of (pages_of before)) reply)
-    → now.text ≡ rows ++ reply_text (built_reply reply) → IsOneLine (reply_text (built_reply reply))
+    → now.text ≡ rows ++ reply_text reply → IsOneLine (reply_text reply)
     → refused ≡ is_refused reply → changed ≡ changes s reply
     → Turned line before now refused changed
 turned line s before now rows reply refused changed read performs still log notes text_is one refused_is changed_is =
@@ -100,10 +81,10 @@ turned line s before now rows reply refused changed read performs still log note
     let x : Option Exception = exception_of room reply in
     let same : perform w s (option_map Spent room) ≡ perform w s x = met_free w s room reply performs.reply in
     let reply_is : reply ≡ (perform w s x).reply = performs.reply ∙ ap (λ (o : Outcome). o.reply) same in
-    let steps : step w line x ≡ stepped w (Ok (Some s)) x = ap (λ (r : Result (Option Statement) Refusal). stepped w r x) read in
+    let steps : step w line x ≡ answered w (Ok (Some s)) x = ap (λ (r : Result (Option Statement) Refusal). answered w r x) read in
     let rows_are : rows ≡ flat_map row_text (perform w s x).rows = performs.rows ∙ ap (λ (o : Outcome). flat_map row_text o.rows) same in
-    let text : now.text ≡ flat_map row_text (perform w s x).rows ++ reply_text (built_reply reply) = text_is ∙ ap (λ (l : List ℕ). l ++ reply_text (built_reply reply)) rows_are in
-    let free : changed ≡ true → x ≡ None = λ (h : changed ≡ true). accepted_free room reply (accepted_of s reply (sym changed_is ∙ h)) in
+    let text : now.text ≡ flat_map row_text (perform w s x).rows ++ reply_text reply = text_is ∙ ap (λ (l : List ℕ). l ++ reply_text reply) rows_are in
+    let free : changed ≡ true → x ≡ None = λ (h : changed ≡ true). accepted_free room reply (changes-accepted s reply (sym changed_is ∙ h)) in
     record {
       some = statement_line line s read;
       log = log;
@@ -111,11 +92,11 @@ turned line s before now rows reply refused changed read performs still log note
       notes = notes;
       full = met_full (pages_of before) reply;
       world = performs.world ∙ ap (λ (o : Outcome). o.world) same ∙ ap (λ (o : Outcome). o.world) (sym steps);
-      text = text ∙ ap (λ (r : Reply). flat_map row_text (perform w s x).rows ++ reply_text (built_reply r)) reply_is ∙ ap outcome_text (sym steps);
-      refused_is = refused_is ∙ sym (built_refused reply) ∙ ap (λ (r : Reply). is_refused (built_reply r)) reply_is ∙ ap (λ (o : Outcome). is_refused o.reply) (sym steps);
-      acked = λ n. subst (λ (t : List ℕ). acknowledged (take n t) ≤ 1) (sym text) (statement_counts (perform w s x).rows (reply_text (built_reply reply)) n one);
+      text = text ∙ ap (λ (r : Reply). flat_map row_text (perform w s x).rows ++ reply_text r) reply_is ∙ ap outcome_text (sym steps);
+      refused_is = refused_is ∙ ap is_refused reply_is ∙ ap (λ (o : Outcome). is_refused o.reply) (sym steps);
+      acked = λ n. subst (λ (t : List ℕ). acknowledged (take n t) ≤ 1) (sym text) (statement_counts (perform w s x).rows (reply_text reply) n one);
       still = λ h. still (sym changed_is ∙ h);
-      quiet = λ h. changed_is ∙ changes_is s reply (sym refused_is ∙ h);
+      quiet = λ h. changed_is ∙ changes-refused s reply (sym refused_is ∙ h);
       changes = λ h. (
         free h,
         ap (λ (r : Result (Option Statement) Refusal). changes_read w r None) read ∙ ap (λ (e : Option Exception). changes s (perform w s e).reply) (sym (free h)) ∙ ap (changes s) (sym reply_is) ∙ sym changed_is ∙ h,
@@ -130,11 +111,11 @@ pub turned_refused : (line : List ℕ) (why : Refusal) (before now : Store)
     → tables_of now ≡ tables_of before
     → now.log ≡ before.log
     → Notes before.tally now.tally None
-    → now.text ≡ reply_text (built_reply (No why)) → IsOneLine (reply_text (built_reply (No why)))
+    → now.text ≡ reply_text (No why) → IsOneLine (reply_text (No why))
     → Turned line before now true false
 turned_refused line why before now read world log notes text_is one =
     let w = tables_of before in
-    let steps : step w line None ≡ stepped w (Err why) None = ap (λ (r : Result (Option Statement) Refusal). stepped w r None) read in
+    let steps : step w line None ≡ answered w (Err why) None = ap (λ (r : Result (Option Statement) Refusal). answered w r None) read in
     record {
       some = refused_line line why read;
       log = log;
@@ -144,7 +125,7 @@ turned_refused line why before now read world log notes text_is one =
       world = world ∙ ap (λ (o : Outcome). o.world) (sym steps);
       text = text_is ∙ ap outcome_text (sym steps);
       refused_is = ap (λ (o : Outcome). is_refused o.reply) (sym steps);
-      acked = λ n. subst (λ (t : List ℕ). acknowledged (take n t) ≤ 1) (sym text_is) (statement_counts [] (reply_text (built_reply (No why))) n one);
+      acked = λ n. subst (λ (t : List ℕ). acknowledged (take n t) ≤ 1) (sym text_is) (statement_counts [] (reply_text (No why)) n one);
       still = λ _. world;
       quiet = λ _. refl;
       changes = λ h. absurd (cc);

@@ -18,7 +18,6 @@ mod open;
 mod others;
 mod outcome;
 mod replay;
-mod reply;
 mod store;
 mod tally;
 mod turn;

@@ -6,7 +6,7 @@ ghost use Rattle.aria_memory.specs.Worlds.{world_of};
 ghost use Rattle.aria_model.specs.World.{empty_world};
 ghost use Rattle.aria_engine.specs.Opening.{Redoes, Replays, FailsAt};
 
-use crate::changing::{is_refused, may_change};
+use crate::changing::{change_of, is_changed};
 use aria_log::Frame;
 use aria_memory::Tables;
 use aria_page::Bytes;
@@ -25,9 +25,9 @@ fn redo(
     match parse(alloc, line) {
         Ok(None) => Ok(false),
         Ok(Some(statement)) => {
-            let may = may_change(&statement);
+            let change = change_of(&statement);
             let reply = tables.execute(alloc, statement, None, text)?;
-            Ok(may & !is_refused(&reply))
+            Ok(is_changed(change, &reply))
         }
         Err(ParseFault::Refused(_)) => Ok(false),
         Err(ParseFault::Memory(error)) => Err(error),

@@ -31,13 +31,21 @@ fn tables_survive_crashes(rt: HostRuntime) -> Result<(), Fail> {
     host.crash(&List::new(alloc))?;
     host.reserve(200, 200)?;
     assert!(rt; runs(alloc, &mut host, b"insert t (1,11)", b"  "));
-    assert!(rt; runs(alloc, &mut host, b"insert t (3,30)", b"drop t"));
+    assert!(rt;
+        runs(
+            alloc,
+            &mut host,
+            b"delete t k (9)",
+            b"update t k (9) set b=1",
+        )
+    );
+    assert!(rt; runs(alloc, &mut host, b"insert t (3,30)", b"delete t k (1)"));
     host.crash(&List::new(alloc))?;
     host.reserve(200, 200)?;
     assert!(rt; runs(alloc, &mut host, b"select t k", b"select u k"));
     assert_eq!(rt;
         host.told(Stream::Out),
-        b"ok\nok 2\nno duplicate k\nok 1\nno not built\nrow 1,10\nrow 2,20\nrow 3,30\nok 3\nno table u\n".as_slice()
+        b"ok\nok 2\nno duplicate k\nok 0\nok 0\nok 1\nok 1\nrow 2,20\nrow 3,30\nok 2\nno table u\n".as_slice()
     );
     Ok(())
 }

@@ -1,17 +1,16 @@
 //! A line in memory: what it does to the tables, and what it tells.
 
-ghost use Rattle.std.specs.Prelude.{◌≡◌, ◌++◌, ◌&&◌, not, [], ℕ, List, Err, IfOk, OnOk, MatchOption};
+ghost use Rattle.std.specs.Prelude.{◌≡◌, ◌++◌, [], ℕ, List, Err, IfOk, OnOk, MatchOption};
 ghost use Rattle.aria_model.specs.Grammar.{read_line};
-ghost use Rattle.aria_model.specs.Step.{built_reply};
 ghost use Rattle.aria_model.specs.Script.{is_refused};
 ghost use Rattle.aria_model.specs.Text.{reply_text, IsOneLine};
 ghost use Rattle.aria_engine.specs.Store.{pages_of};
+ghost use Rattle.aria_engine.specs.Changing.{changed_by};
 ghost use Rattle.aria_engine.specs.Turns.{spent_of, MayNote, Turned, Passed};
 
-use crate::changing::{exception_of, is_refused, may_change};
-use crate::reply::push_built;
+use crate::changing::{Change, change_of, exception_of, is_changed, is_refused};
 use crate::store::{FILE, FULL_PAGES, Store};
-use aria_model::{Refusal, Reply};
+use aria_model::{Refusal, Reply, push_reply_text};
 use aria_page::Bytes;
 use aria_statement::{ParseFault, parse};
 use std::alloc::{AllocError, Global};
@@ -24,18 +23,17 @@ pub(crate) struct Turn {
     pub(crate) changed: bool,
 }
 
-// Adds the line of a reply, to a statement of a kind that may change tables or not.
-fn finish(text: &mut Bytes, may: bool, reply: Reply) -> Result<Turn, AllocError>
-    ensures spelled { OnOk result (text.new ≡ text.old ++ reply_text (built_reply reply)) }
-    ensures one_line { OnOk result (IsOneLine (reply_text (built_reply reply))) }
+// Adds the line of a reply, to a statement of a kind that changes the tables so.
+fn finish(text: &mut Bytes, change: Change, reply: Reply) -> Result<Turn, AllocError>
+    ensures spelled { OnOk result (text.new ≡ text.old ++ reply_text reply) }
+    ensures one_line { OnOk result (IsOneLine (reply_text reply)) }
     ensures refused { IfOk result (λ turn. turn.refused ≡ is_refused reply) }
-    ensures changed { IfOk result (λ turn. turn.changed ≡ (may && not (is_refused reply))) }
+    ensures changed { IfOk result (λ turn. turn.changed ≡ changed_by change reply) }
 {
-    let refused = is_refused(&reply);
-    push_built(text, reply)?;
+    push_reply_text(text, &reply)?;
     Ok(Turn {
-        refused,
-        changed: may & !refused,
+        refused: is_refused(&reply),
+        changed: is_changed(change, &reply),
     })
 }
 
@@ -60,7 +58,7 @@ impl Store {
         ensures log { self.new.log ≡ self.old.log }
     {
         self.tally.begin()?;
-        push_built(&mut self.text, Reply::No(why))?;
+        push_reply_text(&mut self.text, &Reply::No(why))?;
         Ok(Turn {
             refused: true,
             changed: false,
@@ -80,12 +78,12 @@ impl Store {
             Ok(Some(statement)) => {
                 let nth = self.tally.begin()?;
                 let spent = self.spent();
-                let may = may_change(&statement);
+                let change = change_of(&statement);
                 let reply = self
                     .tables
                     .execute(alloc, statement, spent, &mut self.text)?;
                 self.tally.note(nth, exception_of(spent, &reply))?;
-                Ok(Some(finish(&mut self.text, may, reply)?))
+                Ok(Some(finish(&mut self.text, change, reply)?))
             }
             Err(ParseFault::Refused(why)) => Ok(Some(self.refuse(why)?)),
             Err(ParseFault::Memory(error)) => Err(error),

@@ -32,4 +32,4 @@ returns-in_ok-finish-in-Ok-Some-clause-turned c =
     c.in_ok-finish-in-Ok-Some.ensures.spelled
     c.in_ok-finish-in-Ok-Some.ensures.one_line
     c.in_ok-finish-in-Ok-Some.ensures.refused
-    (c.in_ok-finish-in-Ok-Some.ensures.changed ∙ sym (c.may_change-may.ensures reply))
+    (c.in_ok-finish-in-Ok-Some.ensures.changed ∙ sym (c.change_of-change.ensures reply))
