@@ -11,7 +11,7 @@ use Rattle.aria_engine.specs.Holds.{Holds}
 use Rattle.aria_model.specs.Script.{Exceptions, statements, after, world_after, outcomes, told, acknowledged, is_refused, outcome_text}
 use Rattle.aria_model.specs.declared.refusal.Exception.{Exception}
 use Rattle.aria_model.specs.Grammar.{read_line, is_blank_line}
-use Rattle.aria_model.specs.Step.{Outcome, answered, built_reply, step}
+use Rattle.aria_model.specs.Step.{Outcome, answered, step}
 use Rattle.aria_model.specs.declared.statement.Statement.{Statement}
 use Rattle.aria_model.specs.declared.refusal.Refusal.{Refusal}
 use Rattle.aria_engine.specs.declared.store.Store.{Store}
@@ -42,19 +42,15 @@ world_one : (w : World) (line : List ℕ) (blank : Bool) (xs : Exceptions) → w
 world_one w line true xs = refl
 world_one w line false xs = refl
 
--- what is read of a line decides what it does
-abbrev stepped : World → Result (Option Statement) Refusal → Option Exception → Outcome
-stepped w read x = let outcome = answered w read x in record outcome { reply = built_reply outcome.reply }
-
 outcomes_same : (w : World) (a b : List ℕ) (xs : Exceptions) → is_blank_line a ≡ is_blank_line b → read_line a ≡ read_line b
     → outcomes w (statements (a ∷ [])) xs ≡ outcomes w (statements (b ∷ [])) xs
 outcomes_same w a b xs blank read = outcomes_one w a (is_blank_line a) xs ∙ ap (λ (x : Bool). one_outcome x (step w a (xs 0))) blank
-    ∙ ap (λ (r : Result (Option Statement) Refusal). one_outcome (is_blank_line b) (stepped w r (xs 0))) read ∙ sym (outcomes_one w b (is_blank_line b) xs)
+    ∙ ap (λ (r : Result (Option Statement) Refusal). one_outcome (is_blank_line b) (answered w r (xs 0))) read ∙ sym (outcomes_one w b (is_blank_line b) xs)
 
 world_same : (w : World) (a b : List ℕ) (xs : Exceptions) → is_blank_line a ≡ is_blank_line b → read_line a ≡ read_line b
     → world_after w (statements (a ∷ [])) xs ≡ world_after w (statements (b ∷ [])) xs
 world_same w a b xs blank read = world_one w a (is_blank_line a) xs ∙ ap (λ (x : Bool). one_world x w (step w a (xs 0)).world) blank
-    ∙ ap (λ (r : Result (Option Statement) Refusal). one_world (is_blank_line b) w (stepped w r (xs 0)).world) read ∙ sym (world_one w b (is_blank_line b) xs)
+    ∙ ap (λ (r : Result (Option Statement) Refusal). one_world (is_blank_line b) w (answered w r (xs 0)).world) read ∙ sym (world_one w b (is_blank_line b) xs)
 
 length_one : (line : List ℕ) (blank : Bool) → length (cond (not blank) (line ∷ []) []) ≡ cond blank 0 1
 length_one line true = refl
@@ -80,7 +76,7 @@ after_one w line xs false (suc (suc n)) = refl
 after_same : (w : World) (line : List ℕ) (xs : Exceptions) (n : ℕ) → after w (clipped line ∷ []) xs n ≡ after w (line ∷ []) xs n
 after_same w line xs n = after_one w (clipped line) xs (is_blank_line (clipped line)) n
     ∙ ap (λ (x : Bool). world_part n x w (step w (clipped line) (xs 0)).world) (is_blank_line-clipped line)
-    ∙ ap (λ (r : Result (Option Statement) Refusal). world_part n (is_blank_line line) w (stepped w r (xs 0)).world) (read_line-clipped line)
+    ∙ ap (λ (r : Result (Option Statement) Refusal). world_part n (is_blank_line line) w (answered w r (xs 0)).world) (read_line-clipped line)
     ∙ sym (after_one w line xs (is_blank_line line) n)
 
 -- what a crash leaves of a clipped line, it leaves of the line

@@ -67,7 +67,7 @@ row 2,20
 ok 2
 no duplicate k
 no table x
-no not built
+no bad statement at 0
 "
                 .as_slice(),
             1,
@@ -117,14 +117,54 @@ select t k
 "
                 .as_slice(),
             b"ok
-no not built
-no not built
+no table exists t
+no bad value b
 ok 1
-no not built
+no bad value b
 no duplicate k
-no not built
+no key a
 row 1,2
 ok 1
+"
+                .as_slice(),
+            1,
+        ),
+        (
+            b"create t trans id:int name:text(20) keys k1(id) k2(name)
+insert t (2,'b') (1,'a') (3,null)
+select t k2
+update t k1 (1) set name='q'
+delete t k2 ('b')
+delete t k1 (9)
+select t k1
+update t k9 set name=null
+update t k1 set foo=1
+update t k1 set id=null
+flush t
+checkpoint
+drop t
+drop t
+"
+                .as_slice(),
+            b"ok
+ok 3
+row 3,null
+row 1,'a'
+row 2,'b'
+ok 3
+ok 1
+ok 1
+ok 0
+row 1,'q'
+row 3,null
+ok 2
+no key k9
+no column foo
+no bad value id
+ok
+ok
+ok
+no table t
 "
                 .as_slice(),
             1,
@@ -139,21 +179,46 @@ ok 1
 }
 
 #[test]
-fn what_is_not_built_is_refused(rt: HostRuntime) -> Result<(), Fail> {
-    for line in [
-        b"select".as_slice(),
-        b"insert t 5".as_slice(),
-        b"insert t (9223372036854775808)".as_slice(),
-        b"create s packed a:int keys k(a)".as_slice(),
-        b"create s trans a:int keys k(a):spatial".as_slice(),
-        b"create s trans a:int a:int keys k(a)".as_slice(),
-        b"create s trans a:text(498) keys k(a)".as_slice(),
-        b"create s trans a:int keys k(b)".as_slice(),
-        b"drop t".as_slice(),
-        b"checkpoint".as_slice(),
+fn each_refusal_of_a_line_is_told(rt: HostRuntime) -> Result<(), Fail> {
+    for (line, told) in [
+        (b"select".as_slice(), b"no bad statement at 6\n".as_slice()),
+        (
+            b"insert t 5".as_slice(),
+            b"no bad statement at 9\n".as_slice(),
+        ),
+        (
+            b"insert t (9223372036854775808)".as_slice(),
+            b"no number too wide at 10\n".as_slice(),
+        ),
+        (
+            b"create s packed a:int keys k(a)".as_slice(),
+            b"no bad definition packed\n".as_slice(),
+        ),
+        (
+            b"create s trans a:int keys k(a):spatial".as_slice(),
+            b"no bad definition spatial\n".as_slice(),
+        ),
+        (
+            b"create s trans a:int a:int keys k(a)".as_slice(),
+            b"no bad definition columns\n".as_slice(),
+        ),
+        (
+            b"create s trans a:text(499) keys k(a)".as_slice(),
+            b"no bad definition entry\n".as_slice(),
+        ),
+        (
+            b"create s trans a:int keys k(b)".as_slice(),
+            b"no bad definition keys\n".as_slice(),
+        ),
+        (
+            b"create s plain a:int keys k(a)".as_slice(),
+            b"no not built\n".as_slice(),
+        ),
+        (b"drop t".as_slice(), b"no table t\n".as_slice()),
+        (b"flush t".as_slice(), b"no table t\n".as_slice()),
     ] {
         let ran = run_script(rt.alloc(), line)?;
-        assert_eq!(rt; ran.host.told(Stream::Out), b"no not built\n".as_slice());
+        assert_eq!(rt; ran.host.told(Stream::Out), told);
         assert_eq!(rt; ran.host.told(Stream::Err), b"".as_slice());
         assert_eq!(rt; ran.status, 1);
     }
@@ -190,8 +255,8 @@ fn pad_to(line: &mut Vec<u8>, width: usize) -> Result<(), AllocError> {
 fn a_line_of_blanks_past_the_limit_is_refused(rt: HostRuntime) -> Result<(), Fail> {
     for (width, told) in [
         (1_048_576, b"no table t\n".as_slice()),
-        (1_048_577, b"no not built\nno table t\n".as_slice()),
-        (1_200_000, b"no not built\nno table t\n".as_slice()),
+        (1_048_577, b"no line too long\nno table t\n".as_slice()),
+        (1_200_000, b"no line too long\nno table t\n".as_slice()),
     ] {
         let mut script = Vec::new(rt.alloc());
         pad_to(&mut script, width)?;
@@ -246,7 +311,7 @@ fn as_many_rows_as_a_statement_may_have(rt: HostRuntime) -> Result<(), Fail> {
     let ran = run_script(rt.alloc(), script.as_bytes())?;
     assert_eq!(rt;
         ran.host.told(Stream::Out),
-        b"ok\nno not built\nok 0\n".as_slice()
+        b"ok\nno too many rows\nok 0\n".as_slice()
     );
     assert_eq!(rt; ran.status, 1);
     Ok(())
