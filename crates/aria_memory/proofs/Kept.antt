@@ -7,7 +7,7 @@ use Rattle.std.specs.Ordering.{nat_cmp}
 use Rattle.aria_value.specs.declared.value.Value.{Value}
 use Rattle.aria_value.specs.declared.definition.Definition.{Definition}
 use Rattle.aria_model.specs.declared.refusal.Refusal.{Refusal}
-use Rattle.aria_model.specs.declared.refusal.Refusal.TheVariants.{TableExists, TooManyRows}
+use Rattle.aria_model.specs.declared.refusal.Refusal.TheVariants.{TableExists, NotBuilt, TooManyRows}
 use Rattle.aria_model.specs.declared.refusal.Exception.{Exception}
 use Rattle.aria_model.specs.declared.reply.Reply.TheVariants.{Done}
 use Rattle.aria_model.specs.declared.statement.Statement.TheVariants.{Create, Insert}
@@ -16,7 +16,7 @@ use Rattle.aria_model.specs.World.{World, Content, Sound, Crashed, with_table}
 use Rattle.aria_model.specs.Step.{Outcome, first_of, refused_where, unless, spent, is_taken, create, put_all, inserted, insert_into, insert}
 use Rattle.aria_model.specs.Script.{is_refused}
 use Rattle.aria_model.specs.Journal.{changes}
-use Rattle.aria_memory.specs.declared.tables.Table.{Table}
+use Rattle.aria_memory.specs.declared.table.Table.{Table}
 use Rattle.aria_memory.specs.declared.tables.Tables.{Tables}
 use Rattle.aria_memory.specs.Worlds.{table_of, world_of}
 use Rattle.aria_memory.proofs.Outcomes.{insert_at}
@@ -46,9 +46,10 @@ unless_keeps : (refusal : Option Refusal) (world : World) (outcome : Outcome) �
 unless_keeps None world outcome keeps = keeps
 unless_keeps (Some why) world outcome keeps = λ _. refl
 
-create_keeps : (world : World) (name : List ℕ) (d : Definition) (exception : Option Exception) → Keeps world (create world name d exception)
-create_keeps world name d exception = unless_keeps (first_of (refused_where (is_taken (world name)) (TableExists name) ∷ spent exception ∷ [])) world
-    (record { world = with_table world name (Some (record { definition = d; plain = false; content = Sound [] })); rows = []; reply = Done }) (λ h. absurd (cc))
+create_keeps : (world : World) (name : List ℕ) (plain : Bool) (d : Definition) (exception : Option Exception) → Keeps world (create world name plain d exception)
+create_keeps world name plain d exception =
+    unless_keeps (first_of (refused_where (is_taken (world name)) (TableExists name) ∷ refused_where plain NotBuilt ∷ spent exception ∷ [])) world
+    (record { world = with_table world name (Some (record { definition = d; plain = plain; content = Sound [] })); rows = []; reply = Done }) (λ h. absurd (cc))
 
 inserted_keeps : (world : World) (name : List ℕ) (table : model.Table) (count : ℕ) (rows : List (List Value)) (refusal : Option Refusal) → table.plain ≡ false
     → Keeps world (inserted world name table count (record { rows = rows; refusal = refusal }))
@@ -69,9 +70,9 @@ insert_at_keeps world name rows exception None plain = λ _. refl
 insert_at_keeps world name rows exception (Some table) plain = insert_into_keeps world name table table.content rows exception plain
 
 -- A create that is refused leaves the world as it was.
-pub create_kept : (world : World) (name : List ℕ) (d : Definition) (exception : Option Exception)
-    → changes (Create name d) (create world name d exception).reply ≡ false → (create world name d exception).world ≡ world
-create_kept world name d exception = create_keeps world name d exception
+pub create_kept : (world : World) (name : List ℕ) (plain : Bool) (d : Definition) (exception : Option Exception)
+    → changes (Create name plain d) (create world name plain d exception).reply ≡ false → (create world name plain d exception).world ≡ world
+create_kept world name plain d exception = create_keeps world name plain d exception
 
 -- So does an insert, where no table is plain.
 pub insert_kept : (world : World) (name : List ℕ) (rows : List (List Value)) (exception : Option Exception) → HasNoPlain world

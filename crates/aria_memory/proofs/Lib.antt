@@ -1,5 +1,5 @@
 pub mod Entries
-pub mod Numbered
+pub mod Keyed
 pub mod Worlds
 pub mod Outcomes
 pub mod Kept

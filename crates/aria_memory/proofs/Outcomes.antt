@@ -1,48 +1,53 @@
 -- The outcome of each kind of statement, case by case.
-use Rattle.std.specs.Prelude.{◌≡◌, ℕ, Bool, true, false, cond, nat_lt, List, [], ◌∷◌, ◌||◌, length, Option, Some, None, refl}
-use Rattle.std.specs.List.{list_any}
+use Rattle.std.specs.Prelude.{◌≡◌, ℕ, Bool, true, false, cond, nat_lt, List, [], ◌∷◌, length, Option, Some, None, refl}
 use Rattle.std.proofs.Common.{sym, ap, ◌∙◌}
 use Rattle.aria_value.specs.declared.value.Value.{Value}
-use Rattle.aria_value.specs.declared.definition.Column.{Column}
-use Rattle.aria_value.specs.declared.definition.Key.{Key}
 use Rattle.aria_value.specs.declared.definition.Definition.{Definition}
-use Rattle.aria_value.specs.Defined.{same_name}
-use Rattle.aria_value.specs.Order.{key_cmp, sorted}
 use Rattle.aria_model.specs.declared.refusal.Refusal.{Refusal}
-use Rattle.aria_model.specs.declared.refusal.Refusal.TheVariants.{NoTable, TableExists, NoKey, TooManyRows}
+use Rattle.aria_model.specs.declared.refusal.Refusal.TheVariants.{NoTable, TableExists, NotBuilt, TooManyRows}
 use Rattle.aria_model.specs.declared.refusal.Exception.{Exception}
 use Rattle.aria_model.specs.declared.reply.Reply.TheVariants.{Done, Count}
 use Rattle.aria_model.specs.World.{World, Table, Content, Sound, Crashed, with_table}
-use Rattle.aria_model.specs.Step.{Outcome, refused, first_of, refused_where, unless, spent, is_taken, create, Puts, put_all, inserted, insert_into, insert, option_suc, key_number, select_from, select}
-use Rattle.aria_memory.specs.Keyed.{are_number_keys, has_number_key}
+use Rattle.aria_model.specs.Step.{Outcome, refused, first_of, refused_where, unless, spent, is_taken, create, Puts, put_all, inserted, insert_into, insert}
 
 -- a transactional table of these rows
-abbrev sound : Definition → List (List Value) → Table
+abbrev pub sound : Definition → List (List Value) → Table
 sound d rows = record { definition = d; plain = false; content = Sound rows }
 
 -- ---- create
 
--- a create of a name that is taken or free, with the exception that it met
-abbrev creates : World → List ℕ → Definition → Option Exception → Bool → Outcome
-creates world name d exception taken = unless (first_of (refused_where taken (TableExists name) ∷ spent exception ∷ [])) world
-    (record { world = with_table world name (Some (sound d [])); rows = []; reply = Done })
+-- a create of a name that is taken or free, of a table that isn't logged or one that is, with the exception that it met
+abbrev creates : World → List ℕ → Definition → Option Exception → Bool → Bool → Outcome
+creates world name d exception taken plain = unless (first_of (refused_where taken (TableExists name) ∷ refused_where plain NotBuilt ∷ spent exception ∷ [])) world
+    (record { world = with_table world name (Some (record { definition = d; plain = plain; content = Sound [] })); rows = []; reply = Done })
 
-pub create_taken : (world : World) (name : List ℕ) (d : Definition) (exception : Option Exception) → is_taken (world name) ≡ true
-    → create world name d exception ≡ refused world (TableExists name)
-create_taken world name d exception taken = ap (creates world name d exception) taken
+pub create_taken : (world : World) (name : List ℕ) (plain : Bool) (d : Definition) (exception : Option Exception) → is_taken (world name) ≡ true
+    → create world name plain d exception ≡ refused world (TableExists name)
+create_taken world name plain d exception taken = ap (λ t. creates world name d exception t plain) taken
 
-pub create_free : (world : World) (name : List ℕ) (d : Definition) (exception : Option Exception) → is_taken (world name) ≡ false → exception ≡ None
-    → create world name d exception ≡ record { world = with_table world name (Some (sound d [])); rows = []; reply = Done }
-create_free world name d exception free none = λ i. creates world name d (none i) (free i)
+pub create_plain : (world : World) (name : List ℕ) (plain : Bool) (d : Definition) (exception : Option Exception) → is_taken (world name) ≡ false → plain ≡ true
+    → create world name plain d exception ≡ refused world NotBuilt
+create_plain world name plain d exception free is = λ i. creates world name d exception (free i) (is i)
 
-no_rows_unless : (refusal : Option Refusal) (world : World) (outcome : Outcome) → outcome.rows ≡ [] → (unless refusal world outcome).rows ≡ []
+pub create_spent : (world : World) (name : List ℕ) (plain : Bool) (d : Definition) (exception : Option Exception) (why : Refusal) → is_taken (world name) ≡ false → plain ≡ false
+    → spent exception ≡ Some why → create world name plain d exception ≡ refused world why
+create_spent world name plain d exception why free is none =
+    λ i. unless (first_of (refused_where (free i) (TableExists name) ∷ refused_where (is i) NotBuilt ∷ none i ∷ [])) world
+    (record { world = with_table world name (Some (record { definition = d; plain = is i; content = Sound [] })); rows = []; reply = Done })
+
+pub create_free : (world : World) (name : List ℕ) (plain : Bool) (d : Definition) (exception : Option Exception) → is_taken (world name) ≡ false → plain ≡ false → exception ≡ None
+    → create world name plain d exception ≡ record { world = with_table world name (Some (sound d [])); rows = []; reply = Done }
+create_free world name plain d exception free is none = λ i. creates world name d (none i) (free i) (is i)
+
+pub no_rows_unless : (refusal : Option Refusal) (world : World) (outcome : Outcome) → outcome.rows ≡ [] → (unless refusal world outcome).rows ≡ []
 no_rows_unless None world outcome none = none
 no_rows_unless (Some why) world outcome none = refl
 
 -- a create tells no rows
-pub create-rows : (world : World) (name : List ℕ) (d : Definition) (exception : Option Exception) → (create world name d exception).rows ≡ []
-create-rows world name d exception = no_rows_unless (first_of (refused_where (is_taken (world name)) (TableExists name) ∷ spent exception ∷ [])) world
-    (record { world = with_table world name (Some (sound d [])); rows = []; reply = Done }) refl
+pub create-rows : (world : World) (name : List ℕ) (plain : Bool) (d : Definition) (exception : Option Exception) → (create world name plain d exception).rows ≡ []
+create-rows world name plain d exception =
+    no_rows_unless (first_of (refused_where (is_taken (world name)) (TableExists name) ∷ refused_where plain NotBuilt ∷ spent exception ∷ [])) world
+    (record { world = with_table world name (Some (record { definition = d; plain = plain; content = Sound [] })); rows = []; reply = Done }) refl
 
 -- ---- insert
 
@@ -71,7 +76,7 @@ pub insert_many : (world : World) (name : List ℕ) (d : Definition) (old rows :
 insert_many world name d old rows exception has many = inserts_by world name d old rows true exception (put_all d exception 1 old rows) has many refl
 
 -- what rows leave, by its parts
-same_puts : (puts : Puts) (rows : List (List Value)) (refusal : Option Refusal) → rows ≡ puts.rows → refusal ≡ puts.refusal → puts ≡ record { rows = rows; refusal = refusal }
+pub same_puts : (puts : Puts) (rows : List (List Value)) (refusal : Option Refusal) → rows ≡ puts.rows → refusal ≡ puts.refusal → puts ≡ record { rows = rows; refusal = refusal }
 same_puts puts rows refusal r f = λ i. record { rows = sym r i; refusal = sym f i }
 
 pub insert_refused : (world : World) (name : List ℕ) (d : Definition) (old rows : List (List Value)) (exception : Option Exception) (why : Refusal) → world name ≡ Some (sound d old)
@@ -88,11 +93,15 @@ insert_put world name d old rows new exception has few none refusal leaves =
     ap (insert world name rows) none
     ∙ inserts_by world name d old rows false None (record { rows = new; refusal = None }) has few (same_puts (put_all d None 1 old rows) new None leaves refusal)
 
-inserted-rows : (world : World) (name : List ℕ) (table : Table) (count : ℕ) (rows : List (List Value)) (refusal : Option Refusal) (plain : Bool) → table.plain ≡ plain
+inserted_by-rows : (world : World) (name : List ℕ) (table : Table) (count : ℕ) (rows : List (List Value)) (refusal : Option Refusal) (plain : Bool) → table.plain ≡ plain
     → (inserted world name table count (record { rows = rows; refusal = refusal })).rows ≡ []
-inserted-rows world name table count rows None plain is = refl
-inserted-rows world name table count rows (Some why) true is = rw is refl
-inserted-rows world name table count rows (Some why) false is = rw is refl
+inserted_by-rows world name table count rows None plain is = refl
+inserted_by-rows world name table count rows (Some why) true is = rw is refl
+inserted_by-rows world name table count rows (Some why) false is = rw is refl
+
+-- rows that are put or set aren't told
+pub inserted-rows : (world : World) (name : List ℕ) (table : Table) (count : ℕ) (puts : Puts) → (inserted world name table count puts).rows ≡ []
+inserted-rows world name table count puts = inserted_by-rows world name table count puts.rows puts.refusal table.plain refl
 
 insert_into-rows : (world : World) (name : List ℕ) (table : Table) (content : Content) (rows : List (List Value)) (exception : Option Exception)
     → (insert_into world name table content rows exception).rows ≡ []
@@ -100,7 +109,7 @@ insert_into-rows world name table Crashed rows exception = refl
 insert_into-rows world name table (Sound old) rows exception =
     let puts = put_all table.definition exception 1 old rows in
     no_rows_unless (first_of (refused_where (nat_lt 65536 (length rows)) TooManyRows ∷ cond table.plain None (spent exception) ∷ [])) world
-    (inserted world name table (length rows) puts) (inserted-rows world name table (length rows) puts.rows puts.refusal table.plain refl)
+    (inserted world name table (length rows) puts) (inserted-rows world name table (length rows) puts)
 
 insert_at-rows : (world : World) (name : List ℕ) (rows : List (List Value)) (exception : Option Exception) (found : Option Table) → (insert_at world name rows exception found).rows ≡ []
 insert_at-rows world name rows exception None = refl
@@ -109,47 +118,3 @@ insert_at-rows world name rows exception (Some table) = insert_into-rows world n
 -- an insert tells no rows
 pub insert-rows : (world : World) (name : List ℕ) (rows : List (List Value)) (exception : Option Exception) → (insert world name rows exception).rows ≡ []
 insert-rows world name rows exception = insert_at-rows world name rows exception (world name)
-
--- ---- select
-
-abbrev select_at : World → List ℕ → List ℕ → Option Table → Outcome
-select_at world name key found = elim found [
-  | None ↦ refused world (NoTable name)
-  | Some table ↦ select_from world name table.definition table.content key
-]
-
-pub select_absent : (world : World) (name key : List ℕ) → world name ≡ None → select world name key ≡ refused world (NoTable name)
-select_absent world name key absent = ap (select_at world name key) absent
-
-first_or_none : (same : Bool) → cond same (Some 0) (option_suc None) ≡ cond (same || false) (Some 0) None
-first_or_none true = refl
-first_or_none false = refl
-
-number_of_one : (columns : List Column) (keys : List Key) (wanted : List ℕ) → are_number_keys columns keys ≡ true
-    → key_number keys wanted ≡ cond (list_any (λ key. same_name key.name wanted) keys) (Some 0) None
-number_of_one columns [] wanted is = absurd (cc)
-number_of_one columns (key ∷ []) wanted is = first_or_none (same_name key.name wanted)
-number_of_one columns (key ∷ other ∷ keys) wanted is = absurd (cc)
-
--- a select by a key of this number, or by none
-abbrev selects : World → List ℕ → Definition → List (List Value) → List ℕ → Option ℕ → Outcome
-selects world name d rows key number = elim number [
-  | None ↦ refused world (NoKey key)
-  | Some n ↦ record { world = world; rows = sorted (key_cmp d n) rows; reply = Count (length rows) }
-]
-
-selects_by : (world : World) (name : List ℕ) (d : Definition) (rows : List (List Value)) (key : List ℕ) (has_key : Bool) → world name ≡ Some (sound d rows) → has_number_key d ≡ true
-    → has_key ≡ list_any (λ k. same_name k.name key) d.keys → select world name key ≡ selects world name d rows key (cond has_key (Some 0) None)
-selects_by world name d rows key has_key has is found =
-    ap (select_at world name key) has
-    ∙ ap (selects world name d rows key) (number_of_one d.columns d.keys key is ∙ ap (λ b. cond b (Some 0) None) (sym found))
-
-pub select_keyless : (world : World) (name : List ℕ) (d : Definition) (rows : List (List Value)) (key : List ℕ) → world name ≡ Some (sound d rows) → has_number_key d ≡ true
-    → false ≡ list_any (λ k. same_name k.name key) d.keys → select world name key ≡ refused world (NoKey key)
-select_keyless world name d rows key has is found = selects_by world name d rows key false has is found
-
-pub select_told : (world : World) (name : List ℕ) (d : Definition) (rows : List (List Value)) (key : List ℕ) → world name ≡ Some (sound d rows) → has_number_key d ≡ true
-    → true ≡ list_any (λ k. same_name k.name key) d.keys → sorted (key_cmp d 0) rows ≡ rows
-    → select world name key ≡ record { world = world; rows = rows; reply = Count (length rows) }
-select_told world name d rows key has is found rises =
-    selects_by world name d rows key true has is found ∙ ap (λ told. record { world = world; rows = told; reply = Count (length rows) }) rises

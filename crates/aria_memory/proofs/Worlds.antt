@@ -14,7 +14,7 @@ use Rattle.aria_value.specs.Defined.{same_name}
 use Rattle.aria_model.specs.World as model
 use Rattle.aria_model.specs.World.{World, with_table}
 use Rattle.aria_model.specs.Step.{is_taken}
-use Rattle.aria_memory.specs.declared.tables.Table.{Table}
+use Rattle.aria_memory.specs.declared.table.Table.{Table}
 use Rattle.aria_memory.specs.Worlds.{table_of}
 
 -- names that the order doesn't tell apart are the same

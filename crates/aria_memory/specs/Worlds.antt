@@ -5,7 +5,7 @@ use Rattle.std.specs.BTreeMap.{get, values}
 use Rattle.std.specs.Cmp.Lexicographic.{slice_cmp}
 use Rattle.std.specs.Ordering.{nat_cmp}
 use Rattle.aria_model.specs.World as model
-use Rattle.aria_memory.specs.declared.tables.Table.{Table}
+use Rattle.aria_memory.specs.declared.table.Table.{Table}
 use Rattle.aria_memory.specs.declared.tables.Tables.{Tables}
 
 -- a table, with its rows in the order of its first key

@@ -7,7 +7,7 @@
 mod insert;
 mod row_key;
 mod rows;
-mod select;
+mod table;
 mod tables;
 
 pub use tables::Tables;

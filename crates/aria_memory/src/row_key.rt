@@ -7,6 +7,7 @@ ghost use Rattle.aria_memory.specs.Keyed.{values_cmp};
 
 use aria_page::List;
 use aria_value::Value;
+use std::alloc::{AllocError, Global};
 use std::cmp::Ordering;
 use std::marker::Model;
 
@@ -27,6 +28,8 @@ impl Model for RowKey {
 }
 
 impl RowKey {
+    ghost use Rattle.std.specs.Prelude.{IfOk};
+
     /// The key of these values.
     pub(crate) fn new(values: List<Value>) -> RowKey
         ensures { result ≡ values }
@@ -38,6 +41,17 @@ impl RowKey {
         ensures { result.now ≡ self.now }
     {
         self.values.as_slice()
+    }
+
+    /// A copy of the key.
+    pub(crate) fn copy(&self, alloc: Global) -> Result<RowKey, AllocError>
+        ensures { IfOk result (λ copy. copy ≡ self.now) }
+    {
+        let mut values = List::new(alloc);
+        for value in self.as_slice() {
+            values.push(value.copy(alloc)?)?;
+        }
+        Ok(RowKey::new(values))
     }
 }
 

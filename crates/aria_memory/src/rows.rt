@@ -1,44 +1,55 @@
-//! One row against a table: its key, or its first refusal.
+//! One row against a table: its key, and its first refusal.
 
-ghost use Rattle.std.specs.Prelude.{◌≡◌, ℤ, ◌<◌, ◌+◌, [], ◌∷◌, nat_lt, length, IfOk, IfErr, IsTrue, MatchOption};
-ghost use Rattle.std.specs.BTreeMap.{values, get};
-ghost use Rattle.std.specs.Ordering.{int_cmp};
-ghost use Rattle.aria_value.specs.declared.value.Value.TheVariants as kinds;
-ghost use Rattle.aria_value.specs.Order.{value_at};
+ghost use Rattle.std.specs.Prelude.{◌≡◌, ◌==◌, ◌<◌, ◌+◌, [], nat_lt, length, IfOk, IsTrue, MatchOption};
+ghost use Rattle.std.specs.List.{list_any};
+ghost use Rattle.std.specs.BTreeMap.{values};
+ghost use Rattle.aria_value.specs.Defined.{is_definition};
+ghost use Rattle.aria_value.specs.Order.{value_at, key_columns};
 ghost use Rattle.aria_value.specs.Stored.{value_length, row_length};
-ghost use Rattle.aria_model.specs.Step.{may_hold, bad_column, row_refusal};
-ghost use Rattle.aria_memory.specs.Keyed.{key_column, has_number_key, are_keyed};
+ghost use Rattle.aria_model.specs.declared.refusal.Refusal.TheVariants.{Duplicate};
+ghost use Rattle.aria_model.specs.Step.{may_hold, bad_column, first_key_name, row_refusal};
+ghost use Rattle.aria_memory.specs.Keyed.{values_in, are_keyed};
 
+use crate::row_key::RowKey;
 use aria_model::Refusal;
-use aria_page::Name;
+use aria_page::{List, Name};
 use aria_value::{Column, ColumnType, Definition, MAX_ROW_BYTES, Row, Value};
+use std::alloc::{AllocError, Global};
 use std::collections::BTreeMap;
 
-/// The first column of the first key.
-pub fn key_column(definition: &Definition) -> usize
-    ensures { result ≡ key_column definition.now }
+/// The columns of the first key.
+pub(crate) fn first_key_columns(definition: &Definition) -> &[u8]
+    ensures { result.now ≡ key_columns definition.now.keys 0 }
 {
     match definition.keys.as_slice() {
-        [key, ..] => match key.columns.as_slice() {
-            [column, ..] => *column as usize,
-            [] => 0,
-        },
-        [] => 0,
+        [key, ..] => key.columns.as_slice(),
+        [] => &[],
     }
 }
 
-// The number that a row has in a column, if it has one there.
-fn number_at(row: &Row, column: usize) -> i64
-    ensures { (n : ℤ) → value_at row.now column ≡ kinds.Int n → result ≡ n }
+// A copy of the value that a row has in a column.
+fn value_at(alloc: Global, row: &[Value], column: u8) -> Result<Value, AllocError>
+    ensures { IfOk result (λ value. value ≡ value_at row.now column) }
 {
-    match row.as_slice().get(column) {
-        Some(Value::Int(n)) => *n,
-        _ => 0,
+    match row.get(column as usize) {
+        Some(value) => value.copy(alloc),
+        None => Ok(Value::Null),
     }
 }
 
-// Whether a column may hold the value.
-fn may_hold(keyed: bool, kind: ColumnType, value: &Value) -> bool
+/// Copies of the values that a row has in some columns.
+pub(crate) fn key_of(alloc: Global, columns: &[u8], row: &[Value]) -> Result<RowKey, AllocError>
+    ensures { IfOk result (λ key. key ≡ values_in columns.now row.now) }
+{
+    let mut values = List::new(alloc);
+    for column in columns {
+        values.push(value_at(alloc, row, *column)?)?;
+    }
+    Ok(RowKey::new(values))
+}
+
+/// Whether a column may hold the value. Null isn't allowed in a column of the first key.
+pub(crate) fn may_hold(keyed: bool, kind: ColumnType, value: &Value) -> bool
     ensures { result ≡ may_hold keyed kind value.now }
 {
     match (kind, value) {
@@ -50,17 +61,24 @@ fn may_hold(keyed: bool, kind: ColumnType, value: &Value) -> bool
     }
 }
 
+/// Whether a column is one of these.
+pub(crate) fn is_among(columns: &[u8], nth: usize) -> bool
+    ensures { result ≡ list_any (λ k. k == nth) columns.now }
+{
+    columns.iter().any(|k| *k as usize == nth)
+}
+
 // The first column that may not hold its value or has none, and the last where values are left.
-fn bad_column(columns: &[Column], key: usize, row: &[Value]) -> Option<Name>
+fn bad_column(columns: &[Column], keyed: &[u8], row: &[Value]) -> Option<Name>
     requires { 0 < length columns.now }
-    ensures { result ≡ bad_column (key ∷ []) 0 [] columns.now row.now }
+    ensures { result ≡ bad_column keyed.now 0 [] columns.now row.now }
 {
     let mut last = columns[0].name;
     for (nth, column) in columns.iter().enumerate() {
         match row.get(nth) {
             None => return Some(column.name),
             Some(value) => {
-                if !may_hold(nth == key, column.kind, value) {
+                if !may_hold(is_among(keyed, nth), column.kind, value) {
                     return Some(column.name);
                 }
             }
@@ -85,7 +103,8 @@ fn room_behind(room: usize, value: &Value) -> Option<usize>
     }
 }
 
-fn is_too_long(row: &[Value]) -> bool
+/// Whether a row is longer, as it is stored, than a table may hold.
+pub(crate) fn is_too_long(row: &[Value]) -> bool
     ensures { result ≡ nat_lt 65536 (row_length row.now) }
 {
     let mut room = MAX_ROW_BYTES as usize;
@@ -98,35 +117,41 @@ fn is_too_long(row: &[Value]) -> bool
     false
 }
 
-/// The key under which the table's rows may take one more, or the first refusal of it.
-pub fn key_of_new(
-    definition: &Definition,
-    rows: &BTreeMap<i64, Row>,
-    row: &Row,
-) -> Result<i64, Refusal>
-    requires number_key { IsTrue (has_number_key definition.now) }
-    requires keyed { IsTrue (are_keyed definition.now rows.now.entries) }
-    ensures refused { IfErr result (λ why. row_refusal definition.now None 1 (values rows.now) row.now ≡ Some why) }
-    ensures fits { IfOk result (λ _. row_refusal definition.now None 1 (values rows.now) row.now ≡ None) }
-    ensures key { IfOk result (λ key. value_at row.now (key_column definition.now) ≡ kinds.Int key) }
-    ensures fresh { IfOk result (λ key. get int_cmp rows.now key ≡ None) }
+/// The refusal of a row whose key is among the table's.
+pub(crate) fn duplicate(definition: &Definition) -> Refusal
+    requires { IsTrue (is_definition definition.now) }
+    ensures { result ≡ Duplicate (first_key_name definition.now.keys) }
 {
-    let column = key_column(definition);
-    match bad_column(definition.columns.as_slice(), column, row.as_slice()) {
-        Some(column) => return Err(Refusal::BadValue { column }),
+    Refusal::Duplicate {
+        key: definition.keys.as_slice()[0].name,
+    }
+}
+
+/// The first refusal of a row with this key beside the rows of the table.
+pub(crate) fn row_refusal(
+    definition: &Definition,
+    rows: &BTreeMap<RowKey, Row>,
+    key: &RowKey,
+    row: &Row,
+) -> Option<Refusal>
+    requires defined { IsTrue (is_definition definition.now) }
+    requires keyed { IsTrue (are_keyed definition.now rows.now.entries) }
+    requires key { key.now ≡ values_in (key_columns definition.now.keys 0) row.now }
+    ensures { result ≡ row_refusal definition.now None 1 (values rows.now) row.now }
+{
+    let columns = definition.columns.as_slice();
+    match bad_column(columns, first_key_columns(definition), row.as_slice()) {
+        Some(column) => return Some(Refusal::BadValue { column }),
         None => {}
     }
     if is_too_long(row.as_slice()) {
-        return Err(Refusal::RowTooLong);
+        return Some(Refusal::RowTooLong);
     }
-    let key = number_at(row, column);
-    if rows.contains_key(&key) {
-        return Err(Refusal::Duplicate {
-            key: definition.keys.as_slice()[0].name,
-        });
+    if rows.contains_key(key) {
+        return Some(duplicate(definition));
     }
     if rows.len() >= definition.max_rows as usize {
-        return Err(Refusal::RowsFull);
+        return Some(Refusal::RowsFull);
     }
-    Ok(key)
+    None
 }

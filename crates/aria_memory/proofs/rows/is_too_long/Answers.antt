@@ -1,7 +1,7 @@
 use Rattle.std.proofs.Common.{◌≡◌, arith, sym, ap, drop, lt-ltb, le-ltb}
 use Rattle.std.proofs.lemmas.List.{drop_all}
 use Rattle.aria_value.specs.Stored.{row_length}
-use Rattle.aria_memory.proofs.Numbered.{row_length_next}
+use Rattle.aria_memory.proofs.Keyed.{row_length_next}
 use Rattle.aria_memory.proofs.rows.is_too_long.Goals as goal
 
 pub returns-in-None : goal.returns-in-None

@@ -19,10 +19,10 @@ returns-in-Create-clause-performs c = rw c.in-Create.is (
     let old = world_of c.args.self.now in
     let spent = option_map Spent c.args.spent in
     let text = c.args.text.now in
-    IfOk-weaker c.create.result (Leaves (create old c.in-Create.name c.in-Create.definition spent) (world_of c.create.new.self)) _
+    IfOk-weaker c.create.result (Leaves (create old c.in-Create.name c.in-Create.plain c.in-Create.definition spent) (world_of c.create.new.self)) _
     (λ reply leaves. record {
       world = leaves.world;
-      rows = sym (append-nil text) ∙ ap (λ (rows : _). text ++ flat_map row_text rows) (sym (create-rows old c.in-Create.name c.in-Create.definition spent));
+      rows = sym (append-nil text) ∙ ap (λ (rows : _). text ++ flat_map row_text rows) (sym (create-rows old c.in-Create.name c.in-Create.plain c.in-Create.definition spent));
       reply = leaves.reply;
     })
     c.create.ensures.creates)
@@ -32,9 +32,10 @@ returns-in-Create-clause-kept c = rw c.in-Create.is (
     let old = world_of c.args.self.now in
     let spent = option_map Spent c.args.spent in
     let name = c.in-Create.name in
+    let plain = c.in-Create.plain in
     let definition = c.in-Create.definition in
-    IfOk-weaker c.create.result (Leaves (create old name definition spent) (world_of c.create.new.self)) _
-    (λ reply leaves same. leaves.world ∙ create_kept old name definition spent (ap (changes (Create name definition)) (sym leaves.reply) ∙ same))
+    IfOk-weaker c.create.result (Leaves (create old name plain definition spent) (world_of c.create.new.self)) _
+    (λ reply leaves same. leaves.world ∙ create_kept old name plain definition spent (ap (changes (Create name plain definition)) (sym leaves.reply) ∙ same))
     c.create.ensures.creates)
 
 pub returns-in-Insert-clause-performs : goal.returns-in-Insert-clause-performs
@@ -59,6 +60,3 @@ returns-in-Insert-clause-kept c = rw c.in-Insert.is (
     IfOk-weaker c.insert.result (Leaves (insert old name rows spent) (world_of c.insert.new.self)) _
     (λ reply leaves same. leaves.world ∙ insert_kept old name rows spent (no_plain c.args.self.now) (ap (changes (Insert name rows)) (sym leaves.reply) ∙ same))
     c.insert.ensures.inserts)
-
-pub returns-in-Select-clause-performs : goal.returns-in-Select-clause-performs
-returns-in-Select-clause-performs c = rw c.in-Select.is (IfOk-weaker c.select.result _ _ (λ reply performs. performs (option_map Spent c.args.spent)) c.select.ensures)

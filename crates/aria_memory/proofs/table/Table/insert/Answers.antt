@@ -7,7 +7,7 @@ use Rattle.aria_model.specs.World.{Sound, with_table}
 use Rattle.aria_model.specs.Step.{put_all}
 use Rattle.aria_memory.proofs.Worlds.{with_table_same}
 use Rattle.aria_memory.proofs.Outcomes.{insert_refused}
-use Rattle.aria_memory.proofs.tables.Table.insert.Goals as goal
+use Rattle.aria_memory.proofs.table.Table.insert.Goals as goal
 
 pub returns-in-Some-2-clause-inserts : goal.returns-in-Some-2-clause-inserts
 returns-in-Some-2-clause-inserts c = λ world name has.

@@ -1,0 +1,65 @@
+ghost use Rattle.std.specs.Prelude.{IfOk, OnErr, IsTrue};
+ghost use Rattle.aria_value.specs.Defined.{is_definition};
+ghost use Rattle.aria_memory.specs.Keyed.{are_keyed};
+
+use crate::insert::insert_all;
+use crate::row_key::RowKey;
+use aria_model::{MAX_STATEMENT_ROWS, Refusal, Reply};
+use aria_page::List;
+use aria_value::{Definition, Row};
+use std::alloc::{AllocError, Global};
+use std::collections::BTreeMap;
+
+/// A table: its rows by their values in the columns of the first key.
+#[derive(Drop)]
+pub struct Table {
+    definition: Definition,
+    rows: BTreeMap<RowKey, Row>,
+    ghost defined: { IsTrue (is_definition definition) },
+    ghost keyed: { IsTrue (are_keyed definition rows.entries) },
+}
+
+impl Table {
+    ghost use Rattle.std.specs.Prelude.{◌≡◌, [], false};
+    ghost use Rattle.std.specs.Option.{option_map};
+    ghost use Rattle.aria_value.specs.Defined.{IsDefinition};
+    ghost use Rattle.aria_model.specs.declared.refusal.Exception.TheVariants.{Spent};
+    ghost use Rattle.aria_model.specs.World.{Sound};
+    ghost use Rattle.aria_model.specs.Step.{insert};
+    ghost use Rattle.aria_memory.specs.Worlds.{table_of};
+    ghost use Rattle.aria_memory.specs.Performs.{ActsOn};
+
+    /// A table without rows.
+    pub(crate) fn new(alloc: Global, definition: Definition) -> Table
+        requires { IsDefinition definition }
+        ensures { table_of result ≡ record { definition = definition; plain = false; content = Sound [] } }
+    {
+        Table {
+            definition,
+            rows: BTreeMap::new(alloc),
+        }
+    }
+
+    pub(crate) fn insert(
+        &mut self,
+        alloc: Global,
+        rows: List<Row>,
+        spent: Option<u32>,
+    ) -> Result<Reply, AllocError>
+        ensures inserts { IfOk result (λ reply. ActsOn (λ world name. insert world name rows (option_map Spent spent)) (table_of self.old) (table_of self.new) reply) }
+        ensures err { OnErr result (table_of self.new ≡ table_of self.old) }
+    {
+        if rows.len() > MAX_STATEMENT_ROWS {
+            return Ok(Reply::No(Refusal::TooManyRows));
+        }
+        match spent {
+            Some(file) => return Ok(Reply::No(Refusal::LogSpent { file })),
+            None => {}
+        }
+        let count = rows.len() as u64;
+        match insert_all(alloc, &self.definition, &mut self.rows, rows.into_vec())? {
+            Some(why) => Ok(Reply::No(why)),
+            None => Ok(Reply::Count(count)),
+        }
+    }
+}
