@@ -57,7 +57,8 @@ first_name d other is = first_of_keys d.keys other (has_keys d is)
 pub values_total : IsTotalOrder values_cmp
 values_total = lists_total value_total
 
-columns_values : (cs : List ℕ) (a b : List Value) → columns_cmp cs a b ≡ values_cmp (values_in cs a) (values_in cs b)
+-- rows stand to one another by some columns as their values there do
+pub columns_values : (cs : List ℕ) (a b : List Value) → columns_cmp cs a b ≡ values_cmp (values_in cs a) (values_in cs b)
 columns_values [] a b = refl
 columns_values (c ∷ cs) a b = ap (ordering_then (value_cmp (value_at a c) (value_at b c))) (columns_values cs a b)
 

@@ -1,4 +1,5 @@
 pub mod Keyed
 pub mod Undone
+pub mod Without
 pub mod Worlds
 pub mod Performs

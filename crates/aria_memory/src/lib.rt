@@ -4,6 +4,8 @@
 //! that it concerns and a logarithm for each. Nothing is kept when it is dropped.
 #![tactic(auto)]
 
+mod delete;
+mod find;
 mod insert;
 mod row_key;
 mod rows;

@@ -43,15 +43,22 @@ impl RowKey {
         self.values.as_slice()
     }
 
+    /// The key of copies of these values.
+    pub(crate) fn from_slice(alloc: Global, values: &[Value]) -> Result<RowKey, AllocError>
+        ensures { IfOk result (λ key. key ≡ values.now) }
+    {
+        let mut copies = List::new(alloc);
+        for value in values {
+            copies.push(value.copy(alloc)?)?;
+        }
+        Ok(RowKey::new(copies))
+    }
+
     /// A copy of the key.
     pub(crate) fn copy(&self, alloc: Global) -> Result<RowKey, AllocError>
         ensures { IfOk result (λ copy. copy ≡ self.now) }
     {
-        let mut values = List::new(alloc);
-        for value in self.as_slice() {
-            values.push(value.copy(alloc)?)?;
-        }
-        Ok(RowKey::new(values))
+        RowKey::from_slice(alloc, self.as_slice())
     }
 }
 

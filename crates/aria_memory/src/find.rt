@@ -1,0 +1,213 @@
+//! The rows that a statement concerns: those that have its values first in a key's columns.
+
+ghost use Rattle.std.specs.Prelude.{◌≡◌, ◌<◌, [], map, length, IfOk, IsTrue};
+ghost use Rattle.std.specs.List.{filter};
+ghost use Rattle.std.specs.BTreeMap.{IsOrdered, values};
+ghost use Rattle.std.specs.Ordering.{is_eq};
+ghost use Rattle.aria_value.specs.Order.{value_cmp, value_at, columns_cmp, key_columns, order_columns, sorted};
+ghost use Rattle.aria_model.specs.Step.{key_number, may_seek, bad_sought, has_values, concerned};
+ghost use Rattle.aria_memory.specs.Keyed.{values_cmp, values_in, are_keyed, are_columns_of};
+
+use crate::row_key::RowKey;
+use crate::rows::{first_key_columns, key_of};
+use aria_page::{List, Name};
+use aria_value::{Column, ColumnType, Definition, Key, Row, Value};
+use std::alloc::{AllocError, Global};
+use std::collections::BTreeMap;
+
+/// The number of the key of this name, counted from 0.
+pub(crate) fn key_number(keys: &[Key], name: &Name) -> Option<usize>
+    ensures { result ≡ key_number keys.now name.now }
+{
+    for (nth, key) in keys.iter().enumerate() {
+        if key.name == *name {
+            return Some(nth);
+        }
+    }
+    None
+}
+
+/// The columns of a key, and none where there is no such key.
+pub(crate) fn key_columns(keys: &[Key], number: usize) -> &[u8]
+    ensures { result.now ≡ key_columns keys.now number }
+{
+    match keys.get(number) {
+        Some(key) => key.columns.as_slice(),
+        None => &[],
+    }
+}
+
+// Whether a value may be sought in a column of this kind.
+fn may_seek(kind: ColumnType, value: &Value) -> bool
+    ensures { result ≡ may_seek kind value.now }
+{
+    match (kind, value) {
+        (_, Value::Null) => true,
+        (ColumnType::Int, Value::Int(_)) => true,
+        (ColumnType::Int, Value::Text(_)) => false,
+        (ColumnType::Text(_), Value::Int(_)) => false,
+        (ColumnType::Text(_), Value::Text(_)) => true,
+    }
+}
+
+/// The first of a key's columns in which a value may not be sought, and the last one where values are left.
+pub(crate) fn bad_sought(columns: &[Column], key: &[u8], values: &[Value]) -> Option<Name>
+    requires some { 0 < length key.now }
+    requires within { IsTrue (are_columns_of columns.now key.now) }
+    ensures { result ≡ bad_sought columns.now [] key.now values.now }
+{
+    let mut last = columns[key[0] as usize].name;
+    for (nth, value) in values.iter().enumerate() {
+        match key.get(nth) {
+            None => return Some(last),
+            Some(number) => {
+                let column = columns[*number as usize];
+                if !may_seek(column.kind, value) {
+                    return Some(column.name);
+                }
+                last = column.name;
+            }
+        }
+    }
+    None
+}
+
+// Whether a row has the value in a column.
+fn has_value(row: &[Value], column: u8, value: &Value) -> bool
+    ensures { result ≡ is_eq (value_cmp (value_at row.now column) value.now) }
+{
+    match row.get(column as usize) {
+        Some(found) => *found == *value,
+        None => Value::Null == *value,
+    }
+}
+
+/// Whether a row has the values first in these columns.
+pub(crate) fn has_values(columns: &[u8], values: &[Value], row: &[Value]) -> bool
+    ensures { result ≡ has_values columns.now values.now row.now }
+{
+    for (nth, value) in values.iter().enumerate() {
+        match columns.get(nth) {
+            None => return false,
+            Some(column) => {
+                if !has_value(row, *column, value) {
+                    return false;
+                }
+            }
+        }
+    }
+    true
+}
+
+// The columns by which a key orders rows: its own, and then those of the first key.
+fn order_columns(
+    alloc: Global,
+    definition: &Definition,
+    number: usize,
+) -> Result<List<u8>, AllocError>
+    ensures { IfOk result (λ columns. columns ≡ order_columns definition.now number) }
+{
+    let keys = definition.keys.as_slice();
+    let mut columns = List::from_slice(alloc, key_columns(keys, number))?;
+    if number > 0 {
+        columns.extend_from_slice(key_columns(keys, 0))?;
+    }
+    Ok(columns)
+}
+
+// The rows that have the values first in the first key's columns. They stand together, right behind those below the
+// values.
+fn find_by_first<'a>(
+    alloc: Global,
+    definition: &Definition,
+    rows: &'a BTreeMap<RowKey, Row>,
+    sought: &[Value],
+) -> Result<Vec<&'a Row>, AllocError>
+    requires { IsTrue (are_keyed definition.now rows.now.entries) }
+    ensures found { IfOk result (λ found. map (λ r. r.now) found.items ≡ concerned definition.now 0 sought.now (values rows.now)) }
+    ensures ordered { IfOk result (λ _. IsOrdered values_cmp rows.now) }
+{
+    let columns = first_key_columns(definition);
+    let least = RowKey::from_slice(alloc, sought)?;
+    let mut found = Vec::new(alloc);
+    for (_, row) in rows.range(&least..) {
+        if !has_values(columns, sought, row.as_slice()) {
+            return Ok(found);
+        }
+        found.push(row)?;
+    }
+    Ok(found)
+}
+
+// The rows that have the values first in these columns, in the rows' order.
+fn find_among<'a>(
+    alloc: Global,
+    columns: &[u8],
+    rows: &'a BTreeMap<RowKey, Row>,
+    sought: &[Value],
+) -> Result<Vec<&'a Row>, AllocError>
+    ensures found { IfOk result (λ found. map (λ r. r.now) found.items ≡ filter (has_values columns.now sought.now) (values rows.now)) }
+    ensures ordered { IfOk result (λ _. IsOrdered values_cmp rows.now) }
+{
+    let mut found = Vec::new(alloc);
+    for row in rows.values() {
+        if has_values(columns, sought, row.as_slice()) {
+            found.push(row)?;
+        }
+    }
+    Ok(found)
+}
+
+// The rows by their values in these columns.
+fn by_columns<'a>(
+    alloc: Global,
+    columns: &[u8],
+    mut found: Vec<&'a Row>,
+) -> Result<BTreeMap<RowKey, &'a Row>, AllocError>
+    ensures { IfOk result (λ ordered. map (λ r. r.now) (values ordered) ≡ sorted (columns_cmp columns.now) (map (λ r. r.now) found.entry.items)) }
+{
+    let mut ordered = BTreeMap::new(alloc);
+    while let Some(row) = found.pop() {
+        ordered.insert(key_of(alloc, columns, row.as_slice())?, row)?;
+    }
+    Ok(ordered)
+}
+
+/// The rows that have the values first in a key's columns, in the key's order.
+pub(crate) fn find<'a>(
+    alloc: Global,
+    definition: &Definition,
+    rows: &'a BTreeMap<RowKey, Row>,
+    number: usize,
+    sought: &[Value],
+) -> Result<Vec<&'a Row>, AllocError>
+    requires { IsTrue (are_keyed definition.now rows.now.entries) }
+    ensures found { IfOk result (λ found. map (λ r. r.now) found.items ≡ concerned definition.now number sought.now (values rows.now)) }
+    ensures ordered { IfOk result (λ _. IsOrdered values_cmp rows.now) }
+{
+    if number == 0 {
+        return find_by_first(alloc, definition, rows, sought);
+    }
+    let columns = key_columns(definition.keys.as_slice(), number);
+    let found = find_among(alloc, columns, rows, sought)?;
+    let columns = order_columns(alloc, definition, number)?;
+    by_columns(alloc, columns.as_slice(), found)?
+        .into_values()
+        .collect(alloc)
+}
+
+/// The keys of rows: their values in the first key's columns.
+pub(crate) fn keys_of(
+    alloc: Global,
+    definition: &Definition,
+    found: &[&Row],
+) -> Result<Vec<RowKey>, AllocError>
+    ensures { IfOk result (λ keys. keys.items ≡ map (values_in (key_columns definition.now.keys 0)) (map (λ r. r.now) found.now)) }
+{
+    let columns = first_key_columns(definition);
+    let mut keys = Vec::with_capacity(alloc, found.len())?;
+    for row in found {
+        keys.push(key_of(alloc, columns, row.as_slice())?)?;
+    }
+    Ok(keys)
+}
