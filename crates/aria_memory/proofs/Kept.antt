@@ -7,19 +7,19 @@ use Rattle.std.specs.Ordering.{nat_cmp}
 use Rattle.aria_value.specs.declared.value.Value.{Value}
 use Rattle.aria_value.specs.declared.definition.Definition.{Definition}
 use Rattle.aria_model.specs.declared.refusal.Refusal.{Refusal}
-use Rattle.aria_model.specs.declared.refusal.Refusal.TheVariants.{TableExists, NotBuilt, TooManyRows}
+use Rattle.aria_model.specs.declared.refusal.Refusal.TheVariants.{NoTable, TableExists, NotBuilt, TooManyRows}
 use Rattle.aria_model.specs.declared.refusal.Exception.{Exception}
 use Rattle.aria_model.specs.declared.reply.Reply.TheVariants.{Done}
-use Rattle.aria_model.specs.declared.statement.Statement.TheVariants.{Create, Insert}
+use Rattle.aria_model.specs.declared.statement.Statement.TheVariants.{Create, Insert, Drop}
 use Rattle.aria_model.specs.World as model
 use Rattle.aria_model.specs.World.{World, Content, Sound, Crashed, with_table}
-use Rattle.aria_model.specs.Step.{Outcome, first_of, refused_where, unless, spent, is_taken, create, put_all, inserted, insert_into, insert}
+use Rattle.aria_model.specs.Step.{Outcome, refused, first_of, refused_where, unless, spent, is_taken, create, put_all, inserted, insert_into, insert, with_content, drop, flush, checkpoint}
 use Rattle.aria_model.specs.Script.{is_refused}
 use Rattle.aria_model.specs.Journal.{changes}
 use Rattle.aria_memory.specs.declared.table.Table.{Table}
 use Rattle.aria_memory.specs.declared.tables.Tables.{Tables}
 use Rattle.aria_memory.specs.Worlds.{table_of, world_of}
-use Rattle.aria_memory.proofs.Outcomes.{insert_at}
+use Rattle.aria_memory.proofs.Outcomes.{insert_at, drop_at, flush_at}
 
 -- a table is there, and is a plain one
 abbrev pub is_plain : Option model.Table → Bool
@@ -78,3 +78,31 @@ create_kept world name plain d exception = create_keeps world name plain d excep
 pub insert_kept : (world : World) (name : List ℕ) (rows : List (List Value)) (exception : Option Exception) → HasNoPlain world
     → changes (Insert name rows) (insert world name rows exception).reply ≡ false → (insert world name rows exception).world ≡ world
 insert_kept world name rows exception plain = insert_at_keeps world name rows exception (world name) (plain name)
+
+drop_at_keeps : (world : World) (name : List ℕ) (exception : Option Exception) (found : Option model.Table) → Keeps world (drop_at world name exception found)
+drop_at_keeps world name exception None = λ _. refl
+drop_at_keeps world name exception (Some table) = unless_keeps (spent exception) world (record { world = with_table world name None; rows = []; reply = Done }) (λ h. absurd (cc))
+
+-- So does a drop.
+pub drop_kept : (world : World) (name : List ℕ) (exception : Option Exception)
+    → changes (Drop name) (drop world name exception).reply ≡ false → (drop world name exception).world ≡ world
+drop_kept world name exception = drop_at_keeps world name exception (world name)
+
+flush_content_same : (world : World) (name : List ℕ) (content : Content) → (with_content world name content (λ rows. record { world = world; rows = []; reply = Done })).world ≡ world
+flush_content_same world name Crashed = refl
+flush_content_same world name (Sound rows) = refl
+
+flush_at_same : (world : World) (name : List ℕ) (found : Option model.Table) → (flush_at world name found).world ≡ world
+flush_at_same world name None = refl
+flush_at_same world name (Some table) = flush_content_same world name table.content
+
+-- A flush and a checkpoint leave the world as it was.
+pub flush_same : (world : World) (name : List ℕ) → (flush world name).world ≡ world
+flush_same world name = flush_at_same world name (world name)
+
+unless_same : (refusal : Option Refusal) (world : World) (outcome : Outcome) → outcome.world ≡ world → (unless refusal world outcome).world ≡ world
+unless_same None world outcome same = same
+unless_same (Some why) world outcome same = refl
+
+pub checkpoint_same : (world : World) (exception : Option Exception) → (checkpoint world exception).world ≡ world
+checkpoint_same world exception = unless_same (spent exception) world (record { world = world; rows = []; reply = Done }) refl

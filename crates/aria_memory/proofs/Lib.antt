@@ -6,3 +6,8 @@ pub mod Without
 pub mod Worlds
 pub mod Outcomes
 pub mod Kept
+pub mod Quiet
+pub mod Changed
+pub mod SetColumns
+pub mod KeyNumbers
+pub mod Updates

@@ -8,7 +8,7 @@ use Rattle.aria_model.specs.declared.refusal.Refusal.TheVariants.{NoTable, Table
 use Rattle.aria_model.specs.declared.refusal.Exception.{Exception}
 use Rattle.aria_model.specs.declared.reply.Reply.TheVariants.{Done, Count}
 use Rattle.aria_model.specs.World.{World, Table, Content, Sound, Crashed, with_table}
-use Rattle.aria_model.specs.Step.{Outcome, refused, first_of, refused_where, unless, spent, is_taken, create, Puts, put_all, inserted, insert_into, insert}
+use Rattle.aria_model.specs.Step.{Outcome, refused, first_of, refused_where, unless, spent, is_taken, create, Puts, put_all, inserted, insert_into, insert, with_content, drop, flush, checkpoint}
 
 -- a transactional table of these rows
 abbrev pub sound : Definition → List (List Value) → Table
@@ -118,3 +118,63 @@ insert_at-rows world name rows exception (Some table) = insert_into-rows world n
 -- an insert tells no rows
 pub insert-rows : (world : World) (name : List ℕ) (rows : List (List Value)) (exception : Option Exception) → (insert world name rows exception).rows ≡ []
 insert-rows world name rows exception = insert_at-rows world name rows exception (world name)
+
+-- ---- drop, flush and checkpoint
+
+-- what is done with a table whatever it holds, where a name has one or none
+abbrev pub drop_at : World → List ℕ → Option Exception → Option Table → Outcome
+drop_at world name exception found = elim found [
+  | None ↦ refused world (NoTable name)
+  | Some table ↦ unless (spent exception) world (record { world = with_table world name None; rows = []; reply = Done })
+]
+
+drop_found : (world : World) (name : List ℕ) (exception : Option Exception) (found : Option Table) → is_taken found ≡ true
+    → drop_at world name exception found ≡ unless (spent exception) world (record { world = with_table world name None; rows = []; reply = Done })
+drop_found world name exception None taken = absurd (cc)
+drop_found world name exception (Some table) taken = refl
+
+drop_none : (world : World) (name : List ℕ) (exception : Option Exception) (found : Option Table) → is_taken found ≡ false → drop_at world name exception found ≡ refused world (NoTable name)
+drop_none world name exception None taken = refl
+drop_none world name exception (Some table) taken = absurd (cc)
+
+pub drop_absent : (world : World) (name : List ℕ) (exception : Option Exception) → is_taken (world name) ≡ false → drop world name exception ≡ refused world (NoTable name)
+drop_absent world name exception taken = drop_none world name exception (world name) taken
+
+pub drop_taken : (world : World) (name : List ℕ) (exception : Option Exception) → is_taken (world name) ≡ true
+    → drop world name exception ≡ unless (spent exception) world (record { world = with_table world name None; rows = []; reply = Done })
+drop_taken world name exception taken = drop_found world name exception (world name) taken
+
+pub drop_gone : (world : World) (name : List ℕ) (exception : Option Exception) → is_taken (world name) ≡ true → exception ≡ None
+    → drop world name exception ≡ record { world = with_table world name None; rows = []; reply = Done }
+drop_gone world name exception taken none =
+    drop_taken world name exception taken ∙ ap (λ e. unless (spent e) world (record { world = with_table world name None; rows = []; reply = Done })) none
+
+drop_at-rows : (world : World) (name : List ℕ) (exception : Option Exception) (found : Option Table) → (drop_at world name exception found).rows ≡ []
+drop_at-rows world name exception None = refl
+drop_at-rows world name exception (Some table) = no_rows_unless (spent exception) world (record { world = with_table world name None; rows = []; reply = Done }) refl
+
+-- a drop tells no rows
+pub drop-rows : (world : World) (name : List ℕ) (exception : Option Exception) → (drop world name exception).rows ≡ []
+drop-rows world name exception = drop_at-rows world name exception (world name)
+
+-- a flush at what a name has
+abbrev pub flush_at : World → List ℕ → Option Table → Outcome
+flush_at world name found = elim found [
+  | None ↦ refused world (NoTable name)
+  | Some table ↦ with_content world name table.content (λ rows. record { world = world; rows = []; reply = Done })
+]
+
+flush_content-rows : (world : World) (name : List ℕ) (content : Content) → (with_content world name content (λ rows. record { world = world; rows = []; reply = Done })).rows ≡ []
+flush_content-rows world name Crashed = refl
+flush_content-rows world name (Sound rows) = refl
+
+flush_at-rows : (world : World) (name : List ℕ) (found : Option Table) → (flush_at world name found).rows ≡ []
+flush_at-rows world name None = refl
+flush_at-rows world name (Some table) = flush_content-rows world name table.content
+
+-- a flush tells no rows
+pub flush-rows : (world : World) (name : List ℕ) → (flush world name).rows ≡ []
+flush-rows world name = flush_at-rows world name (world name)
+
+pub checkpoint-rows : (world : World) (exception : Option Exception) → (checkpoint world exception).rows ≡ []
+checkpoint-rows world exception = no_rows_unless (spent exception) world (record { world = world; rows = []; reply = Done }) refl

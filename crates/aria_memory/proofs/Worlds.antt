@@ -57,3 +57,16 @@ world_with old new name table put = λ i. λ other.
 pub taken_is : (found : Option Table) → is_taken (option_map table_of found) ≡ is_some found
 taken_is None = refl
 taken_is (Some table) = refl
+
+taken_out_where : (b : Bool) (there : Option Table) → option_map table_of (cond b None there) ≡ cond b None (option_map table_of there)
+taken_out_where true there = refl
+taken_out_where false there = refl
+
+-- a map with the table of a name taken out is the world without it
+pub world_without : (old new : List (List ℕ × Table)) (name : List ℕ)
+    → ((other : List ℕ) → lookup (is_at (slice_cmp nat_cmp other)) new ≡ cond (is_at (slice_cmp nat_cmp name) other) None (lookup (is_at (slice_cmp nat_cmp other)) old))
+    → world_from new ≡ with_table (world_from old) name None
+world_without old new name out = λ i. λ other.
+    (ap (option_map table_of) (out other)
+    ∙ taken_out_where (is_at (slice_cmp nat_cmp name) other) (lookup (is_at (slice_cmp nat_cmp other)) old)
+    ∙ ap (λ b. cond b None (world_from old other)) (same_back name other)) i

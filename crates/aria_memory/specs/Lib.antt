@@ -3,3 +3,4 @@ pub mod Undone
 pub mod Without
 pub mod Worlds
 pub mod Performs
+pub mod Updated

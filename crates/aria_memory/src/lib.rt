@@ -4,13 +4,16 @@
 //! that it concerns and a logarithm for each. Nothing is kept when it is dropped.
 #![tactic(auto)]
 
+mod change;
 mod delete;
 mod find;
 mod insert;
 mod row_key;
 mod rows;
+mod settings;
 mod table;
 mod tables;
+mod update;
 
 pub use tables::Tables;
 

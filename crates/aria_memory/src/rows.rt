@@ -37,6 +37,17 @@ fn value_at(alloc: Global, row: &[Value], column: u8) -> Result<Value, AllocErro
     }
 }
 
+/// A copy of a row.
+pub(crate) fn copies(alloc: Global, row: &[Value]) -> Result<Row, AllocError>
+    ensures { IfOk result (λ copies. copies ≡ row.now) }
+{
+    let mut values = List::new(alloc);
+    for value in row {
+        values.push(value.copy(alloc)?)?;
+    }
+    Ok(values)
+}
+
 /// Copies of the values that a row has in some columns.
 pub(crate) fn key_of(alloc: Global, columns: &[u8], row: &[Value]) -> Result<RowKey, AllocError>
     ensures { IfOk result (λ key. key ≡ values_in columns.now row.now) }

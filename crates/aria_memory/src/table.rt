@@ -2,11 +2,13 @@ ghost use Rattle.std.specs.Prelude.{IfOk, OnErr, IsTrue};
 ghost use Rattle.aria_value.specs.Defined.{is_definition};
 ghost use Rattle.aria_memory.specs.Keyed.{are_keyed};
 
+use crate::find::{find, key_number};
 use crate::insert::insert_all;
 use crate::row_key::RowKey;
-use aria_model::{MAX_STATEMENT_ROWS, Refusal, Reply};
-use aria_page::List;
-use aria_value::{Definition, Row};
+use crate::update::{bad_update, changes_of, update_all};
+use aria_model::{MAX_STATEMENT_ROWS, Refusal, Reply, Setting};
+use aria_page::{List, Name};
+use aria_value::{Definition, Row, Value};
 use std::alloc::{AllocError, Global};
 use std::collections::BTreeMap;
 
@@ -25,7 +27,7 @@ impl Table {
     ghost use Rattle.aria_value.specs.Defined.{IsDefinition};
     ghost use Rattle.aria_model.specs.declared.refusal.Exception.TheVariants.{Spent};
     ghost use Rattle.aria_model.specs.World.{Sound};
-    ghost use Rattle.aria_model.specs.Step.{insert};
+    ghost use Rattle.aria_model.specs.Step.{insert, update};
     ghost use Rattle.aria_memory.specs.Worlds.{table_of};
     ghost use Rattle.aria_memory.specs.Performs.{ActsOn};
 
@@ -60,6 +62,42 @@ impl Table {
         match insert_all(alloc, &self.definition, &mut self.rows, rows.into_vec())? {
             Some(why) => Ok(Reply::No(why)),
             None => Ok(Reply::Count(count)),
+        }
+    }
+
+    /// Without memory the rows may be any.
+    pub(crate) fn update(
+        &mut self,
+        alloc: Global,
+        key: Name,
+        values: &[Value],
+        settings: &[Setting],
+        spent: Option<u32>,
+    ) -> Result<Reply, AllocError>
+        ensures { IfOk result (λ reply. ActsOn (λ world name. update world name key values.now settings.now (option_map Spent spent)) (table_of self.old) (table_of self.new) reply) }
+    {
+        let number = match key_number(self.definition.keys.as_slice(), &key) {
+            Some(number) => number,
+            None => return Ok(Reply::No(Refusal::NoKey { name: key })),
+        };
+        match bad_update(&self.definition, number, values, settings) {
+            Some(why) => return Ok(Reply::No(why)),
+            None => {}
+        }
+        let found = find(alloc, &self.definition, &self.rows, number, values)?;
+        let count = found.as_slice().len();
+        if count > MAX_STATEMENT_ROWS {
+            return Ok(Reply::No(Refusal::TooManyRows));
+        }
+        match spent {
+            Some(file) => return Ok(Reply::No(Refusal::LogSpent { file })),
+            None => {}
+        }
+        let changes = changes_of(alloc, &self.definition, settings, found.as_slice())?;
+        drop(found);
+        match update_all(alloc, &self.definition, &mut self.rows, changes)? {
+            Some(why) => Ok(Reply::No(why)),
+            None => Ok(Reply::Count(count as u64)),
         }
     }
 }

@@ -4,9 +4,9 @@ ghost use Rattle.aria_model.specs.Grammar.{IsSpelled};
 ghost use Rattle.aria_model.specs.World.{empty_world};
 
 use crate::table::Table;
-use aria_model::{Refusal, Reply, Statement};
+use aria_model::{Refusal, Reply, Setting, Statement};
 use aria_page::{Bytes, List, Name};
-use aria_value::{Definition, Row};
+use aria_value::{Definition, Row, Value};
 use std::alloc::{AllocError, Global};
 use std::collections::BTreeMap;
 
@@ -20,7 +20,7 @@ impl Tables {
     ghost use Rattle.std.specs.Prelude.{false};
     ghost use Rattle.std.specs.Option.{option_map};
     ghost use Rattle.aria_model.specs.declared.refusal.Exception.TheVariants.{Spent};
-    ghost use Rattle.aria_model.specs.Step.{create, insert};
+    ghost use Rattle.aria_model.specs.Step.{create, insert, update, drop, flush, checkpoint};
     ghost use Rattle.aria_model.specs.Journal.{changes};
     ghost use Rattle.aria_memory.specs.Worlds.{world_of};
     ghost use Rattle.aria_memory.specs.Performs.{Leaves, Performs, is_update};
@@ -76,6 +76,57 @@ impl Tables {
         }
     }
 
+    fn update(
+        &mut self,
+        alloc: Global,
+        name: Name,
+        key: Name,
+        values: &[Value],
+        settings: &[Setting],
+        spent: Option<u32>,
+    ) -> Result<Reply, AllocError>
+        ensures { IfOk result (λ reply. Leaves (update (world_of self.old) name key values.now settings.now (option_map Spent spent)) (world_of self.new) reply) }
+    {
+        match self.by_name.get_mut(&name) {
+            None => Ok(Reply::No(Refusal::NoTable { name })),
+            Some(table) => table.update(alloc, key, values, settings, spent),
+        }
+    }
+
+    fn drop_table(&mut self, name: Name, spent: Option<u32>) -> Reply
+        ensures { Leaves (drop (world_of self.old) name (option_map Spent spent)) (world_of self.new) result }
+    {
+        if !self.by_name.contains_key(&name) {
+            return Reply::No(Refusal::NoTable { name });
+        }
+        match spent {
+            Some(file) => return Reply::No(Refusal::LogSpent { file }),
+            None => {}
+        }
+        self.by_name.remove(&name);
+        Reply::Done
+    }
+
+    // Each table is a transactional one, and has nothing to bring to the disk.
+    fn flush(&self, name: Name) -> Reply
+        ensures { Leaves (flush (world_of self.now) name) (world_of self.now) result }
+    {
+        if self.by_name.contains_key(&name) {
+            Reply::Done
+        } else {
+            Reply::No(Refusal::NoTable { name })
+        }
+    }
+
+    fn checkpoint(&self, spent: Option<u32>) -> Reply
+        ensures { Leaves (checkpoint (world_of self.now) (option_map Spent spent)) (world_of self.now) result }
+    {
+        match spent {
+            Some(file) => Reply::No(Refusal::LogSpent { file }),
+            None => Reply::Done,
+        }
+    }
+
     /// Executes a statement, and adds the lines of the rows that it tells to `text`. Where the log has no
     /// room, `spent` is the number of its last file: then a statement that would be logged is refused, in its
     /// place in the order. Without memory what `text` holds is not to be told, and the tables stay as they
@@ -100,11 +151,16 @@ impl Tables {
             } => self.create(alloc, name, plain, definition, spent),
             Statement::Insert { name, rows } => self.insert(alloc, name, rows, spent),
             Statement::Delete { .. } => Err(AllocError),
-            Statement::Update { .. } => Err(AllocError),
+            Statement::Update {
+                name,
+                key,
+                values,
+                set,
+            } => self.update(alloc, name, key, values.as_slice(), set.as_slice(), spent),
             Statement::Select { .. } => Err(AllocError),
-            Statement::Drop { .. } => Err(AllocError),
-            Statement::Flush { .. } => Err(AllocError),
-            Statement::Checkpoint => Err(AllocError),
+            Statement::Drop { name } => Ok(self.drop_table(name, spent)),
+            Statement::Flush { name } => Ok(self.flush(name)),
+            Statement::Checkpoint => Ok(self.checkpoint(spent)),
         }
     }
 }

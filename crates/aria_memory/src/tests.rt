@@ -1,41 +1,35 @@
-ghost use Rattle.std.specs.Prelude.{◌≡◌, IfOk};
-ghost use Rattle.aria_value.specs.declared.definition.ColumnType.TheVariants as kinds;
-ghost use Rattle.aria_model.specs.Grammar.{HasNumberKey};
+ghost use Rattle.std.specs.Prelude.{IfOk};
+ghost use Rattle.aria_value.specs.Defined.{IsDefinition};
 
 use crate::tables::Tables;
-use aria_model::{Refusal, Reply, Statement};
+use aria_model::{Refusal, Reply, Setting, Statement};
 use aria_page::{Bytes, List, Name};
-use aria_value::{Column, ColumnType, Definition, Key, MAX_ROWS, Row, Value};
+use aria_value::{Definition, MAX_ROWS, Row, Value, decode_definition};
 use std::alloc::{AllocError, Global};
 
 fn name(word: &str) -> Result<Name, AllocError> {
     Name::read(word.as_bytes()).ok_or(AllocError)
 }
 
-fn column(word: &str) -> Result<Column, AllocError>
-    ensures { IfOk result (λ column. column.kind ≡ kinds.Int) }
+// The definition that these bytes spell.
+fn definition(alloc: Global, bytes: &[u8]) -> Result<Definition, AllocError>
+    ensures { IfOk result IsDefinition }
 {
-    Ok(Column {
-        name: name(word)?,
-        kind: ColumnType::Int,
-    })
+    match decode_definition(alloc, bytes)? {
+        Some(definition) => Ok(definition),
+        None => Err(AllocError),
+    }
 }
 
 // The columns id and v of numbers, and the key k of id.
 fn numbers(alloc: Global, max_rows: u32) -> Result<Definition, AllocError>
-    ensures { IfOk result HasNumberKey }
+    ensures { IfOk result IsDefinition }
 {
-    let mut keys = List::new(alloc);
-    keys.push(Key {
-        name: name("k")?,
-        columns: List::from_slice(alloc, &[0])?,
-    })?;
-    let columns = List::from_slice(alloc, &[column("id")?, column("v")?])?;
-    Ok(Definition {
-        columns,
-        keys,
-        max_rows,
-    })
+    let mut bytes = Bytes::new(alloc);
+    bytes.extend_from_slice(&[2, 2, b'i', b'd', 0, 0, 0, 0, 0, 1, b'v', 0, 0, 0, 0, 0])?;
+    bytes.extend_from_slice(&[1, 1, b'k', 1, 0])?;
+    bytes.extend_from_slice(&max_rows.to_be_bytes())?;
+    definition(alloc, bytes.as_slice())
 }
 
 fn rows_of(alloc: Global, numbers: &[&[i64]]) -> Result<List<Row>, AllocError> {
@@ -70,6 +64,7 @@ fn created(
 ) -> Result<Reply, AllocError> {
     let statement = Statement::Create {
         name: name("t")?,
+        plain: false,
         definition: numbers(alloc, max_rows)?,
     };
     tables.execute(alloc, statement, spent, &mut Bytes::new(alloc))
@@ -99,9 +94,80 @@ fn selected(
     let statement = Statement::Select {
         name: name(table)?,
         key: name(key)?,
+        values: List::new(alloc),
     };
     let reply = tables.execute(alloc, statement, spent, &mut text)?;
     Ok((reply, text))
+}
+
+// The settings of numbers in columns of these names.
+fn settings_of(alloc: Global, set: &[(&str, i64)]) -> Result<List<Setting>, AllocError> {
+    let mut settings = List::new(alloc);
+    for (word, number) in set {
+        settings.push(Setting {
+            column: name(word)?,
+            value: Value::Int(*number),
+        })?;
+    }
+    Ok(settings)
+}
+
+fn updated(
+    alloc: Global,
+    tables: &mut Tables,
+    ids: &[i64],
+    set: List<Setting>,
+    spent: Option<u32>,
+) -> Result<Reply, AllocError> {
+    let mut values = List::new(alloc);
+    for id in ids {
+        values.push(Value::Int(*id))?;
+    }
+    let statement = Statement::Update {
+        name: name("t")?,
+        key: name("k")?,
+        values,
+        set,
+    };
+    tables.execute(alloc, statement, spent, &mut Bytes::new(alloc))
+}
+
+fn dropped(
+    alloc: Global,
+    tables: &mut Tables,
+    table: &str,
+    spent: Option<u32>,
+) -> Result<Reply, AllocError> {
+    let statement = Statement::Drop { name: name(table)? };
+    tables.execute(alloc, statement, spent, &mut Bytes::new(alloc))
+}
+
+fn flushed(alloc: Global, tables: &mut Tables, table: &str) -> Result<Reply, AllocError> {
+    let statement = Statement::Flush { name: name(table)? };
+    tables.execute(alloc, statement, Some(7), &mut Bytes::new(alloc))
+}
+
+// A table that isn't logged.
+fn created_plain(
+    alloc: Global,
+    tables: &mut Tables,
+    spent: Option<u32>,
+) -> Result<Reply, AllocError> {
+    let statement = Statement::Create {
+        name: name("t")?,
+        plain: true,
+        definition: numbers(alloc, MAX_ROWS)?,
+    };
+    tables.execute(alloc, statement, spent, &mut Bytes::new(alloc))
+}
+
+// The table t of the rows 1,10 and 2,20 and 3,30.
+fn three_rows(alloc: Global) -> Result<Tables, AllocError> {
+    let mut tables = Tables::new(alloc);
+    let _ = created(alloc, &mut tables, MAX_ROWS, None)?;
+    let rows = rows_of(alloc, &[&[1, 10], &[2, 20], &[3, 30]])?;
+    let _ = inserted(alloc, &mut tables, rows, None)?;
+    Ok(tables)
 }
 
 #[test]
@@ -215,5 +281,132 @@ fn a_spent_log_refuses_behind_names_and_too_many_rows(rt: HostRuntime) -> Result
     let (reply, text) = selected(alloc, &mut tables, "t", "k", spent)?;
     assert!(rt; matches!(reply, Reply::Count(0)));
     assert!(rt; text.as_slice().is_empty());
+    Ok(())
+}
+
+#[test]
+fn an_update_sets_the_rows_it_concerns(rt: HostRuntime) -> Result<(), AllocError> {
+    let alloc = rt.alloc();
+    let mut tables = three_rows(alloc)?;
+    let set = settings_of(alloc, &[("v", 25)])?;
+    let reply = updated(alloc, &mut tables, &[2], set, None)?;
+    assert!(rt; matches!(reply, Reply::Count(1)));
+    let set = settings_of(alloc, &[("v", 1)])?;
+    let reply = updated(alloc, &mut tables, &[4], set, None)?;
+    assert!(rt; matches!(reply, Reply::Count(0)));
+    // The last of two settings of a column counts, and a row moves to its new place.
+    let set = settings_of(alloc, &[("id", 8), ("v", 1), ("id", 9)])?;
+    let reply = updated(alloc, &mut tables, &[1], set, None)?;
+    assert!(rt; matches!(reply, Reply::Count(1)));
+    let (_, text) = selected(alloc, &mut tables, "t", "k", None)?;
+    assert!(rt; text.as_slice() == b"row 2,25\nrow 3,30\nrow 9,1\n".as_slice());
+    let set = settings_of(alloc, &[("v", 0)])?;
+    let reply = updated(alloc, &mut tables, &[], set, None)?;
+    assert!(rt; matches!(reply, Reply::Count(3)));
+    let (_, text) = selected(alloc, &mut tables, "t", "k", None)?;
+    assert!(rt; text.as_slice() == b"row 2,0\nrow 3,0\nrow 9,0\n".as_slice());
+    Ok(())
+}
+
+#[test]
+fn a_refused_update_changes_nothing(rt: HostRuntime) -> Result<(), AllocError> {
+    let alloc = rt.alloc();
+    let mut tables = three_rows(alloc)?;
+    // The first row would be a second row 2.
+    let set = settings_of(alloc, &[("id", 2)])?;
+    let reply = updated(alloc, &mut tables, &[], set, None)?;
+    assert!(rt; matches!(reply, Reply::No(Refusal::Duplicate { .. })));
+    // The second row would be a second row 9, and the first has been set by then.
+    let set = settings_of(alloc, &[("v", 5), ("id", 9)])?;
+    let reply = updated(alloc, &mut tables, &[], set, None)?;
+    assert!(rt; matches!(reply, Reply::No(Refusal::Duplicate { .. })));
+    let set = settings_of(alloc, &[("v", 5)])?;
+    let reply = updated(alloc, &mut tables, &[], set, Some(7))?;
+    assert!(rt; matches!(reply, Reply::No(Refusal::LogSpent { file: 7 })));
+    let (_, text) = selected(alloc, &mut tables, "t", "k", None)?;
+    assert!(rt; text.as_slice() == b"row 1,10\nrow 2,20\nrow 3,30\n".as_slice());
+    Ok(())
+}
+
+#[test]
+fn what_an_update_may_not_set(rt: HostRuntime) -> Result<(), AllocError> {
+    let alloc = rt.alloc();
+    let mut tables = three_rows(alloc)?;
+    // A column that isn't there is told before the values that are sought, of which there is one too many.
+    let set = settings_of(alloc, &[("v", 1), ("w", 1)])?;
+    let reply = updated(alloc, &mut tables, &[1, 1], set, None)?;
+    assert!(rt; matches!(reply, Reply::No(Refusal::NoColumn { .. })));
+    let set = settings_of(alloc, &[("v", 1)])?;
+    let reply = updated(alloc, &mut tables, &[1, 1], set, None)?;
+    assert!(rt; matches!(reply, Reply::No(Refusal::BadValue { .. })));
+    let mut set = List::new(alloc);
+    set.push(Setting {
+        column: name("id")?,
+        value: Value::Null,
+    })?;
+    let reply = updated(alloc, &mut tables, &[1], set, None)?;
+    assert!(rt; matches!(reply, Reply::No(Refusal::BadValue { .. })));
+    let mut set = List::new(alloc);
+    set.push(Setting {
+        column: name("v")?,
+        value: Value::Null,
+    })?;
+    let reply = updated(alloc, &mut tables, &[1], set, None)?;
+    assert!(rt; matches!(reply, Reply::Count(1)));
+    Ok(())
+}
+
+#[test]
+fn a_dropped_table_is_gone(rt: HostRuntime) -> Result<(), AllocError> {
+    let alloc = rt.alloc();
+    let mut tables = three_rows(alloc)?;
+    let reply = dropped(alloc, &mut tables, "x", Some(7))?;
+    assert!(rt; matches!(reply, Reply::No(Refusal::NoTable { .. })));
+    let reply = dropped(alloc, &mut tables, "t", Some(7))?;
+    assert!(rt; matches!(reply, Reply::No(Refusal::LogSpent { file: 7 })));
+    let reply = dropped(alloc, &mut tables, "t", None)?;
+    assert!(rt; matches!(reply, Reply::Done));
+    let reply = dropped(alloc, &mut tables, "t", None)?;
+    assert!(rt; matches!(reply, Reply::No(Refusal::NoTable { .. })));
+    let reply = created(alloc, &mut tables, MAX_ROWS, None)?;
+    assert!(rt; matches!(reply, Reply::Done));
+    Ok(())
+}
+
+#[test]
+fn flush_and_checkpoint_change_nothing(rt: HostRuntime) -> Result<(), AllocError> {
+    let alloc = rt.alloc();
+    let mut tables = three_rows(alloc)?;
+    let reply = flushed(alloc, &mut tables, "t")?;
+    assert!(rt; matches!(reply, Reply::Done));
+    let reply = flushed(alloc, &mut tables, "x")?;
+    assert!(rt; matches!(reply, Reply::No(Refusal::NoTable { .. })));
+    let reply = tables.execute(
+        alloc,
+        Statement::Checkpoint,
+        None,
+        &mut Bytes::new(alloc),
+    )?;
+    assert!(rt; matches!(reply, Reply::Done));
+    let reply = tables.execute(
+        alloc,
+        Statement::Checkpoint,
+        Some(7),
+        &mut Bytes::new(alloc),
+    )?;
+    assert!(rt; matches!(reply, Reply::No(Refusal::LogSpent { file: 7 })));
+    Ok(())
+}
+
+#[test]
+fn a_table_that_is_not_logged_is_not_built(rt: HostRuntime) -> Result<(), AllocError> {
+    let alloc = rt.alloc();
+    let mut tables = Tables::new(alloc);
+    let reply = created_plain(alloc, &mut tables, Some(7))?;
+    assert!(rt; matches!(reply, Reply::No(Refusal::NotBuilt)));
+    let reply = created(alloc, &mut tables, MAX_ROWS, None)?;
+    assert!(rt; matches!(reply, Reply::Done));
+    let reply = created_plain(alloc, &mut tables, None)?;
+    assert!(rt; matches!(reply, Reply::No(Refusal::TableExists { .. })));
     Ok(())
 }

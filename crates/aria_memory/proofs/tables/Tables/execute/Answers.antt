@@ -1,62 +1,120 @@
-use Rattle.std.proofs.Common.{sym, ap, ◌∙◌, ◌++◌}
+use Rattle.std.proofs.Common.{◌≡◌, ℕ, List, subst}
+use Rattle.std.specs.Prelude.{Option, Result, IfOk}
 use Rattle.std.specs.Option.{option_map}
-use Rattle.std.specs.List.{flat_map}
-use Rattle.std.proofs.lemmas.List.{append-nil}
+use Rattle.std.specs.declared.alloc.AllocError.{AllocError}
 use Rattle.std.proofs.lemmas.Result.{IfOk-weaker}
+use Rattle.aria_value.specs.declared.value.Value.{Value}
+use Rattle.aria_model.specs.World.{World}
+use Rattle.aria_model.specs.declared.reply.Reply.{Reply}
+use Rattle.aria_model.specs.declared.statement.Setting.{Setting}
+use Rattle.aria_model.specs.declared.refusal.Exception.{Exception}
 use Rattle.aria_model.specs.declared.refusal.Exception.TheVariants.{Spent}
-use Rattle.aria_model.specs.declared.statement.Statement.TheVariants.{Create, Insert}
-use Rattle.aria_model.specs.Text.{row_text}
-use Rattle.aria_model.specs.Step.{create, insert}
-use Rattle.aria_model.specs.Journal.{changes}
+use Rattle.aria_model.specs.declared.statement.Statement.TheVariants.{Create, Insert, Update, Drop, Flush}
+use Rattle.aria_model.specs.Step.{create, insert, update}
 use Rattle.aria_memory.specs.Worlds.{world_of}
 use Rattle.aria_memory.specs.Performs.{Leaves}
-use Rattle.aria_memory.proofs.Outcomes.{create-rows, insert-rows}
-use Rattle.aria_memory.proofs.Kept.{no_plain, create_kept, insert_kept}
+use Rattle.aria_memory.proofs.Outcomes.{create-rows, insert-rows, drop-rows, flush-rows}
+use Rattle.aria_memory.proofs.Kept.{no_plain, create_kept, insert_kept, drop_kept}
+use Rattle.aria_memory.proofs.Updates.{update-rows, update_kept}
+use Rattle.aria_memory.proofs.Quiet.{tells_none, keeps_all}
 use Rattle.aria_memory.proofs.tables.Tables.execute.Goals as goal
+
+-- an update by the slices of its lists
+updated : (old : World) (name key : List ℕ) (values given : List Value) (settings set : List Setting) (spent : Option Exception) (new : World) (result : Result Reply AllocError)
+    → given ≡ values → set ≡ settings → IfOk result (Leaves (update old name key given set spent) new) → IfOk result (Leaves (update old name key values settings spent) new)
+updated old name key values given settings set spent new result v s done =
+    subst (λ g. IfOk result (Leaves (update old name key g settings spent) new)) v (subst (λ x. IfOk result (Leaves (update old name key given x spent) new)) s done)
 
 pub returns-in-Create-clause-performs : goal.returns-in-Create-clause-performs
 returns-in-Create-clause-performs c = rw c.in-Create.is (
     let old = world_of c.args.self.now in
+    let new = world_of c.create.new.self in
     let spent = option_map Spent c.args.spent in
-    let text = c.args.text.now in
-    IfOk-weaker c.create.result (Leaves (create old c.in-Create.name c.in-Create.plain c.in-Create.definition spent) (world_of c.create.new.self)) _
-    (λ reply leaves. record {
-      world = leaves.world;
-      rows = sym (append-nil text) ∙ ap (λ (rows : _). text ++ flat_map row_text rows) (sym (create-rows old c.in-Create.name c.in-Create.plain c.in-Create.definition spent));
-      reply = leaves.reply;
-    })
+    let name = c.in-Create.name in
+    let plain = c.in-Create.plain in
+    let definition = c.in-Create.definition in
+    IfOk-weaker c.create.result (Leaves (create old name plain definition spent) new) _
+    (λ reply leaves. tells_none old new (Create name plain definition) spent c.args.text.now reply (create-rows old name plain definition spent) leaves)
     c.create.ensures.creates)
 
 pub returns-in-Create-clause-kept : goal.returns-in-Create-clause-kept
 returns-in-Create-clause-kept c = rw c.in-Create.is (
     let old = world_of c.args.self.now in
+    let new = world_of c.create.new.self in
     let spent = option_map Spent c.args.spent in
     let name = c.in-Create.name in
     let plain = c.in-Create.plain in
     let definition = c.in-Create.definition in
-    IfOk-weaker c.create.result (Leaves (create old name plain definition spent) (world_of c.create.new.self)) _
-    (λ reply leaves same. leaves.world ∙ create_kept old name plain definition spent (ap (changes (Create name plain definition)) (sym leaves.reply) ∙ same))
+    IfOk-weaker c.create.result (Leaves (create old name plain definition spent) new) _
+    (λ reply leaves. keeps_all old new (Create name plain definition) spent reply (create_kept old name plain definition spent) leaves)
     c.create.ensures.creates)
 
 pub returns-in-Insert-clause-performs : goal.returns-in-Insert-clause-performs
 returns-in-Insert-clause-performs c = rw c.in-Insert.is (
     let old = world_of c.args.self.now in
+    let new = world_of c.insert.new.self in
     let spent = option_map Spent c.args.spent in
-    let text = c.args.text.now in
-    IfOk-weaker c.insert.result (Leaves (insert old c.in-Insert.name c.in-Insert.rows spent) (world_of c.insert.new.self)) _
-    (λ reply leaves. record {
-      world = leaves.world;
-      rows = sym (append-nil text) ∙ ap (λ (rows : _). text ++ flat_map row_text rows) (sym (insert-rows old c.in-Insert.name c.in-Insert.rows spent));
-      reply = leaves.reply;
-    })
+    let name = c.in-Insert.name in
+    let rows = c.in-Insert.rows in
+    IfOk-weaker c.insert.result (Leaves (insert old name rows spent) new) _
+    (λ reply leaves. tells_none old new (Insert name rows) spent c.args.text.now reply (insert-rows old name rows spent) leaves)
     c.insert.ensures.inserts)
 
 pub returns-in-Insert-clause-kept : goal.returns-in-Insert-clause-kept
 returns-in-Insert-clause-kept c = rw c.in-Insert.is (
     let old = world_of c.args.self.now in
+    let new = world_of c.insert.new.self in
     let spent = option_map Spent c.args.spent in
     let name = c.in-Insert.name in
     let rows = c.in-Insert.rows in
-    IfOk-weaker c.insert.result (Leaves (insert old name rows spent) (world_of c.insert.new.self)) _
-    (λ reply leaves same. leaves.world ∙ insert_kept old name rows spent (no_plain c.args.self.now) (ap (changes (Insert name rows)) (sym leaves.reply) ∙ same))
+    IfOk-weaker c.insert.result (Leaves (insert old name rows spent) new) _
+    (λ reply leaves. keeps_all old new (Insert name rows) spent reply (insert_kept old name rows spent (no_plain c.args.self.now)) leaves)
     c.insert.ensures.inserts)
+
+pub returns-in-Update-clause-performs : goal.returns-in-Update-clause-performs
+returns-in-Update-clause-performs c = rw c.in-Update.is (
+    let old = world_of c.args.self.now in
+    let new = world_of c.update.new.self in
+    let spent = option_map Spent c.args.spent in
+    let name = c.in-Update.name in
+    let key = c.in-Update.key in
+    let values = c.in-Update.values in
+    let settings = c.in-Update.set in
+    IfOk-weaker c.update.result (Leaves (update old name key values settings spent) new) _
+    (λ reply leaves. tells_none old new (Update name key values settings) spent c.args.text.now reply (update-rows old name key values settings spent) leaves)
+    (updated old name key values c.as_slice.result.now settings c.as_slice-in-Update.result.now spent new c.update.result c.as_slice.ensures c.as_slice-in-Update.ensures c.update.ensures))
+
+pub returns-in-Update-clause-kept : goal.returns-in-Update-clause-kept
+returns-in-Update-clause-kept c = rw c.in-Update.is (
+    let old = world_of c.args.self.now in
+    let new = world_of c.update.new.self in
+    let spent = option_map Spent c.args.spent in
+    let name = c.in-Update.name in
+    let key = c.in-Update.key in
+    let values = c.in-Update.values in
+    let settings = c.in-Update.set in
+    IfOk-weaker c.update.result (Leaves (update old name key values settings spent) new) _
+    (λ reply leaves. keeps_all old new (Update name key values settings) spent reply (update_kept old name key values settings spent (no_plain c.args.self.now)) leaves)
+    (updated old name key values c.as_slice.result.now settings c.as_slice-in-Update.result.now spent new c.update.result c.as_slice.ensures c.as_slice-in-Update.ensures c.update.ensures))
+
+pub returns-in-Drop : goal.returns-in-Drop
+returns-in-Drop c = rw c.in-Drop.is (
+    let old = world_of c.args.self.now in
+    let new = world_of c.drop_table.new.self in
+    let spent = option_map Spent c.args.spent in
+    let name = c.in-Drop.name in
+    record {
+      performs = tells_none old new (Drop name) spent c.args.text.now c.drop_table.result (drop-rows old name spent) c.drop_table.ensures;
+      kept = keeps_all old new (Drop name) spent c.drop_table.result (drop_kept old name spent) c.drop_table.ensures;
+      err = tt;
+    })
+
+pub returns-in-Flush : goal.returns-in-Flush
+returns-in-Flush c = rw c.in-Flush.is (
+    let old = world_of c.args.self.now in
+    let spent = option_map Spent c.args.spent in
+    record {
+      performs = tells_none old old (Flush c.in-Flush.name) spent c.args.text.now c.flush.result (flush-rows old c.in-Flush.name) c.flush.ensures;
+      kept = λ _ i. old;
+      err = tt;
+    })

@@ -1,0 +1,6 @@
+use Rattle.std.proofs.Common.{◌≡◌, take}
+use Rattle.aria_memory.proofs.rows.copies.Given as goal
+
+-- the values so far are copied
+abbrev pub invariant-loop-value : goal.invariant-loop-value
+invariant-loop-value l = l.values ≡ take l.value-index l.row
