@@ -11,3 +11,4 @@ pub mod Changed
 pub mod SetColumns
 pub mod KeyNumbers
 pub mod Updates
+pub mod Seeking

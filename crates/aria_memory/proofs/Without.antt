@@ -18,6 +18,7 @@ use Rattle.aria_value.specs.Order.{value_cmp, value_at, columns_cmp, key_columns
 use Rattle.aria_model.specs.Step.{has_values, concerned, others}
 use Rattle.aria_memory.specs.Keyed.{values_cmp, values_in, has_key}
 use Rattle.aria_memory.specs.Without.{without}
+use Rattle.aria_memory.specs.Seeking.{concerned_keys}
 use Rattle.aria_memory.proofs.Keyed.{values_total, columns_values}
 use Rattle.aria_memory.proofs.Found.{exact_values, key_is, both_tied, tied_key, values_of-filter, list_all-filter}
 
@@ -180,11 +181,7 @@ turn_all : {X : Type 0} (f g h : X → Bool) (xs : List X) → ((x : X) → f x 
 turn_all f g h [] same all = tt
 turn_all f g h (x ∷ xs) same all = (ap not (same x ∙ all.0), turn_all f g h xs same all.1)
 
--- the keys of the rows that a statement concerns
-abbrev pub concerned_keys : Definition → ℕ → List Value → List (List Value) → List (List Value)
-concerned_keys d n sought rows = map (values_in (key_columns d.keys 0)) (concerned d n sought rows)
-
--- Without them the others are left.
+-- Without those that a statement concerns the others are left.
 pub without_concerned : (d : Definition) (n : ℕ) (sought : List Value) (es : List (List Value × List Value)) → list_all (has_key d) es ≡ true → IsStrictlySortedBy values_cmp (keys_of es)
     → values_of (without values_cmp (concerned_keys d n sought (values_of es)) es) ≡ others d n sought (values_of es)
 without_concerned d n sought es keyed rises =

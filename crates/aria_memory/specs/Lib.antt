@@ -4,3 +4,4 @@ pub mod Without
 pub mod Worlds
 pub mod Performs
 pub mod Updated
+pub mod Seeking

@@ -1,15 +1,18 @@
 //! The rows that a statement concerns: those that have its values first in a key's columns.
 
-ghost use Rattle.std.specs.Prelude.{◌≡◌, ◌<◌, [], map, length, IfOk, IsTrue};
+ghost use Rattle.std.specs.Prelude.{◌≡◌, ◌<◌, [], map, length, IfOk, IfErr, IsTrue};
 ghost use Rattle.std.specs.List.{filter};
 ghost use Rattle.std.specs.BTreeMap.{IsOrdered, values};
 ghost use Rattle.std.specs.Ordering.{is_eq};
+ghost use Rattle.aria_value.specs.Defined.{is_definition};
 ghost use Rattle.aria_value.specs.Order.{value_cmp, value_at, columns_cmp, key_columns, order_columns, sorted};
 ghost use Rattle.aria_model.specs.Step.{key_number, may_seek, bad_sought, has_values, concerned};
 ghost use Rattle.aria_memory.specs.Keyed.{values_cmp, values_in, are_keyed, are_columns_of};
+ghost use Rattle.aria_memory.specs.Seeking.{seek_refusal, concerned_keys};
 
 use crate::row_key::RowKey;
 use crate::rows::{first_key_columns, key_of};
+use aria_model::Refusal;
 use aria_page::{List, Name};
 use aria_value::{Column, ColumnType, Definition, Key, Row, Value};
 use std::alloc::{AllocError, Global};
@@ -70,6 +73,25 @@ pub(crate) fn bad_sought(columns: &[Column], key: &[u8], values: &[Value]) -> Op
         }
     }
     None
+}
+
+/// The number of the key of this name, by which the values may be sought, or the first refusal of them.
+pub(crate) fn seek(definition: &Definition, key: Name, values: &[Value]) -> Result<usize, Refusal>
+    requires { IsTrue (is_definition definition.now) }
+    ensures refused { IfErr result (λ why. seek_refusal definition.now key values.now ≡ Some why) }
+    ensures found { IfOk result (λ number. key_number definition.now.keys key ≡ Some number) }
+    ensures sought { IfOk result (λ _. seek_refusal definition.now key values.now ≡ None) }
+{
+    let keys = definition.keys.as_slice();
+    match key_number(keys, &key) {
+        None => Err(Refusal::NoKey { name: key }),
+        Some(number) => {
+            match bad_sought(definition.columns.as_slice(), key_columns(keys, number), values) {
+                Some(column) => Err(Refusal::BadValue { column }),
+                None => Ok(number),
+            }
+        }
+    }
 }
 
 // Whether a row has the value in a column.

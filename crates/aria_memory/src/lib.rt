@@ -10,6 +10,7 @@ mod find;
 mod insert;
 mod row_key;
 mod rows;
+mod select;
 mod settings;
 mod table;
 mod tables;

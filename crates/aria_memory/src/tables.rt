@@ -17,10 +17,12 @@ pub struct Tables {
 }
 
 impl Tables {
-    ghost use Rattle.std.specs.Prelude.{false};
+    ghost use Rattle.std.specs.Prelude.{Option, false};
     ghost use Rattle.std.specs.Option.{option_map};
+    ghost use Rattle.aria_model.specs.declared.refusal.Exception.{Exception};
     ghost use Rattle.aria_model.specs.declared.refusal.Exception.TheVariants.{Spent};
-    ghost use Rattle.aria_model.specs.Step.{create, insert, update, drop, flush, checkpoint};
+    ghost use Rattle.aria_model.specs.declared.statement.Statement.TheVariants as statements;
+    ghost use Rattle.aria_model.specs.Step.{create, insert, delete, update, drop, flush, checkpoint};
     ghost use Rattle.aria_model.specs.Journal.{changes};
     ghost use Rattle.aria_memory.specs.Worlds.{world_of};
     ghost use Rattle.aria_memory.specs.Performs.{Leaves, Performs, is_update};
@@ -76,6 +78,23 @@ impl Tables {
         }
     }
 
+    fn delete(
+        &mut self,
+        alloc: Global,
+        name: Name,
+        key: Name,
+        sought: &[Value],
+        spent: Option<u32>,
+    ) -> Result<Reply, AllocError>
+        ensures deletes { IfOk result (λ reply. Leaves (delete (world_of self.old) name key sought.now (option_map Spent spent)) (world_of self.new) reply) }
+        ensures err { OnErr result (world_of self.new ≡ world_of self.old) }
+    {
+        match self.by_name.get_mut(&name) {
+            None => Ok(Reply::No(Refusal::NoTable { name })),
+            Some(table) => table.delete(alloc, key, sought, spent),
+        }
+    }
+
     fn update(
         &mut self,
         alloc: Global,
@@ -90,6 +109,22 @@ impl Tables {
         match self.by_name.get_mut(&name) {
             None => Ok(Reply::No(Refusal::NoTable { name })),
             Some(table) => table.update(alloc, key, values, settings, spent),
+        }
+    }
+
+    fn select(
+        &self,
+        alloc: Global,
+        name: Name,
+        key: Name,
+        sought: &[Value],
+        text: &mut Bytes,
+    ) -> Result<Reply, AllocError>
+        ensures { IfOk result (λ reply. (exception : Option Exception) → Performs (world_of self.now) (statements.Select name key sought.now) exception (world_of self.now) text.old text.new reply) }
+    {
+        match self.by_name.get(&name) {
+            None => Ok(Reply::No(Refusal::NoTable { name })),
+            Some(table) => table.select(alloc, key, sought, text),
         }
     }
 
@@ -150,14 +185,18 @@ impl Tables {
                 definition,
             } => self.create(alloc, name, plain, definition, spent),
             Statement::Insert { name, rows } => self.insert(alloc, name, rows, spent),
-            Statement::Delete { .. } => Err(AllocError),
+            Statement::Delete { name, key, values } => {
+                self.delete(alloc, name, key, values.as_slice(), spent)
+            }
             Statement::Update {
                 name,
                 key,
                 values,
                 set,
             } => self.update(alloc, name, key, values.as_slice(), set.as_slice(), spent),
-            Statement::Select { .. } => Err(AllocError),
+            Statement::Select { name, key, values } => {
+                self.select(alloc, name, key, values.as_slice(), text)
+            }
             Statement::Drop { name } => Ok(self.drop_table(name, spent)),
             Statement::Flush { name } => Ok(self.flush(name)),
             Statement::Checkpoint => Ok(self.checkpoint(spent)),

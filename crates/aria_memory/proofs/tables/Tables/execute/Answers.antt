@@ -9,12 +9,13 @@ use Rattle.aria_model.specs.declared.reply.Reply.{Reply}
 use Rattle.aria_model.specs.declared.statement.Setting.{Setting}
 use Rattle.aria_model.specs.declared.refusal.Exception.{Exception}
 use Rattle.aria_model.specs.declared.refusal.Exception.TheVariants.{Spent}
-use Rattle.aria_model.specs.declared.statement.Statement.TheVariants.{Create, Insert, Update, Drop, Flush}
-use Rattle.aria_model.specs.Step.{create, insert, update}
+use Rattle.aria_model.specs.declared.statement.Statement.TheVariants.{Create, Insert, Delete, Update, Drop, Flush}
+use Rattle.aria_model.specs.Step.{create, insert, delete, update}
 use Rattle.aria_memory.specs.Worlds.{world_of}
 use Rattle.aria_memory.specs.Performs.{Leaves}
 use Rattle.aria_memory.proofs.Outcomes.{create-rows, insert-rows, drop-rows, flush-rows}
 use Rattle.aria_memory.proofs.Kept.{no_plain, create_kept, insert_kept, drop_kept}
+use Rattle.aria_memory.proofs.Seeking.{delete-rows, delete_kept}
 use Rattle.aria_memory.proofs.Updates.{update-rows, update_kept}
 use Rattle.aria_memory.proofs.Quiet.{tells_none, keeps_all}
 use Rattle.aria_memory.proofs.tables.Tables.execute.Goals as goal
@@ -71,6 +72,34 @@ returns-in-Insert-clause-kept c = rw c.in-Insert.is (
     (λ reply leaves. keeps_all old new (Insert name rows) spent reply (insert_kept old name rows spent (no_plain c.args.self.now)) leaves)
     c.insert.ensures.inserts)
 
+pub returns-in-Delete-clause-performs : goal.returns-in-Delete-clause-performs
+returns-in-Delete-clause-performs c = rw c.in-Delete.is (
+    let old = world_of c.args.self.now in
+    let new = world_of c.delete.new.self in
+    let spent = option_map Spent c.args.spent in
+    let name = c.in-Delete.name in
+    let key = c.in-Delete.key in
+    let values = c.in-Delete.values in
+    IfOk-weaker c.delete.result (Leaves (delete old name key values spent) new) _
+    (λ reply leaves. tells_none old new (Delete name key values) spent c.args.text.now reply (delete-rows old name key values spent) leaves)
+    (subst (λ (given : List Value). IfOk c.delete.result (Leaves (delete old name key given spent) new)) c.as_slice.ensures c.delete.ensures.deletes))
+
+pub returns-in-Delete-clause-kept : goal.returns-in-Delete-clause-kept
+returns-in-Delete-clause-kept c = rw c.in-Delete.is (
+    let old = world_of c.args.self.now in
+    let new = world_of c.delete.new.self in
+    let spent = option_map Spent c.args.spent in
+    let name = c.in-Delete.name in
+    let key = c.in-Delete.key in
+    let values = c.in-Delete.values in
+    IfOk-weaker c.delete.result (Leaves (delete old name key values spent) new) _
+    (λ reply leaves. keeps_all old new (Delete name key values) spent reply (delete_kept old name key values spent) leaves)
+    (subst (λ (given : List Value). IfOk c.delete.result (Leaves (delete old name key given spent) new)) c.as_slice.ensures c.delete.ensures.deletes))
+
+pub returns-in-Select-clause-performs : goal.returns-in-Select-clause-performs
+returns-in-Select-clause-performs c = rw c.in-Select.is (
+    IfOk-weaker c.select.result _ _ (λ reply performs. performs (option_map Spent c.args.spent)) (rw c.as_slice-in-Select.ensures at c.select.ensures))
+
 pub returns-in-Update-clause-performs : goal.returns-in-Update-clause-performs
 returns-in-Update-clause-performs c = rw c.in-Update.is (
     let old = world_of c.args.self.now in
@@ -82,7 +111,7 @@ returns-in-Update-clause-performs c = rw c.in-Update.is (
     let settings = c.in-Update.set in
     IfOk-weaker c.update.result (Leaves (update old name key values settings spent) new) _
     (λ reply leaves. tells_none old new (Update name key values settings) spent c.args.text.now reply (update-rows old name key values settings spent) leaves)
-    (updated old name key values c.as_slice.result.now settings c.as_slice-in-Update.result.now spent new c.update.result c.as_slice.ensures c.as_slice-in-Update.ensures c.update.ensures))
+    (updated old name key values c.as_slice-in-Update.result.now settings c.as_slice-in-Update-2.result.now spent new c.update.result c.as_slice-in-Update.ensures c.as_slice-in-Update-2.ensures c.update.ensures))
 
 pub returns-in-Update-clause-kept : goal.returns-in-Update-clause-kept
 returns-in-Update-clause-kept c = rw c.in-Update.is (
@@ -95,7 +124,7 @@ returns-in-Update-clause-kept c = rw c.in-Update.is (
     let settings = c.in-Update.set in
     IfOk-weaker c.update.result (Leaves (update old name key values settings spent) new) _
     (λ reply leaves. keeps_all old new (Update name key values settings) spent reply (update_kept old name key values settings spent (no_plain c.args.self.now)) leaves)
-    (updated old name key values c.as_slice.result.now settings c.as_slice-in-Update.result.now spent new c.update.result c.as_slice.ensures c.as_slice-in-Update.ensures c.update.ensures))
+    (updated old name key values c.as_slice-in-Update.result.now settings c.as_slice-in-Update-2.result.now spent new c.update.result c.as_slice-in-Update.ensures c.as_slice-in-Update-2.ensures c.update.ensures))
 
 pub returns-in-Drop : goal.returns-in-Drop
 returns-in-Drop c = rw c.in-Drop.is (
