@@ -20,3 +20,5 @@ pub use tables::Tables;
 
 #[cfg(test)]
 mod tests;
+#[cfg(test)]
+mod tests_by_key;
