@@ -1,5 +1,6 @@
 pub mod Token
 pub mod Grammar
+pub mod Spelling
 pub mod World
 pub mod Step
 pub mod Text
