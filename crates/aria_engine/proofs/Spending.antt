@@ -1,11 +1,10 @@
 -- What a spent log changes of a statement.
-use Rattle.std.proofs.Common.{◌≡◌, inl, inr, rules, ℕ, ◌<◌, ◌≤◌, Bool, true, false, cond, nat_le, nat_lt, Option, Some, None, List, [], ◌∷◌, length, refl, sym, ◌∙◌, ap, subst, arith}
+use Rattle.std.proofs.Common.{◌≡◌, inl, inr, rules, ℕ, ◌<◌, ◌≤◌, Bool, true, false, cond, nat_le, Option, Some, None, refl, sym, ◌∙◌, ap, subst, arith}
 use Rattle.std.specs.Prelude.{not}
 use Rattle.std.specs.Option.{option_map}
 use Rattle.std.proofs.lemmas.Bool.{cases_lt, cases_Bool}
 use Rattle.std.proofs.lemmas.Bool.Decides.{nat_tests}
 use Rattle.aria_model.specs.declared.refusal.Refusal.TheVariants.{LogSpent}
-use Rattle.aria_model.specs.declared.refusal.Exception.{Exception}
 use Rattle.aria_model.specs.declared.refusal.Exception.TheVariants.{Spent}
 use Rattle.aria_model.specs.declared.reply.Reply.{Reply}
 use Rattle.aria_model.specs.declared.reply.Reply.TheVariants.{Done, Count, No}

@@ -9,11 +9,10 @@ use Rattle.aria_model.specs.declared.refusal.Refusal.TheVariants.{LineTooLong}
 use Rattle.aria_model.specs.declared.refusal.Exception.{Exception}
 use Rattle.aria_model.specs.declared.refusal.Exception.TheVariants.{Spent}
 use Rattle.aria_model.specs.declared.reply.Reply.{Reply}
-use Rattle.aria_model.specs.declared.reply.Reply.TheVariants.{Done, Count, No}
+use Rattle.aria_model.specs.declared.reply.Reply.TheVariants.{No}
 use Rattle.aria_model.specs.declared.statement.Statement.{Statement}
 use Rattle.aria_model.specs.Token.{is_blank, tokens}
 use Rattle.aria_model.specs.Grammar.{read_line, is_blank_line, statement, ◌>>=◌}
-use Rattle.aria_model.specs.World.{World}
 use Rattle.aria_model.specs.Step.{Outcome, answered, step, perform}
 use Rattle.aria_model.specs.Script.{is_refused, outcome_text, acknowledged}
 use Rattle.aria_model.specs.Journal.{changes, changes_read}

@@ -1,6 +1,6 @@
 -- A whole command: its store is opened, its script is run, and it ends.
-use Rattle.std.proofs.Common.{◌≡◌, inl, inr, ⊎_elim, ℕ, ◌+◌, ◌-◌, ◌^◌, ◌<◌, ◌≤◌, min, Bool, true, false, Option, Some, None, List, [], ◌∷◌, ◌++◌, length, take, drop, IsTrue, Result, Ok, Err, refl, sym, ap, subst, ◌∙◌, arith}
-use Rattle.std.specs.Prelude.{◌↔◌, ◌≢◌, ◌⊎◌, IfErr, IsSome}
+use Rattle.std.proofs.Common.{◌≡◌, inl, inr, ⊎_elim, ℕ, ◌+◌, ◌-◌, ◌^◌, ◌≤◌, min, Bool, true, false, Option, Some, None, List, ◌∷◌, ◌++◌, length, take, drop, IsTrue, Result, Ok, Err, refl, sym, ap, subst, ◌∙◌, arith}
+use Rattle.std.specs.Prelude.{◌↔◌, ◌⊎◌, IfErr, IsSome}
 use Rattle.std.proofs.lemmas.List.{append-nil, length-append}
 use Rattle.std.proofs.Math.Seq.{take-length, drop-append_seam}
 use Rattle.aria_host.specs.Count.{Rose}
@@ -9,15 +9,15 @@ use Rattle.aria_host.specs.declared.fault.Fault.{Fault}
 use Rattle.aria_host.specs.declared.fault.Fault.TheVariants as faults
 use Rattle.aria_host.proofs.Moments.{joined, weakened}
 use Rattle.aria_model.specs.World.{World}
-use Rattle.aria_model.specs.Script.{Exceptions, lines_of, ended_lines, statements, world_after, told, any_refused, acknowledged}
-use Rattle.aria_engine.specs.Holds.{Holds, IsDamage, AtRest, IsSettled}
+use Rattle.aria_model.specs.Script.{Exceptions, lines_of, ended_lines, told, any_refused, acknowledged}
+use Rattle.aria_engine.specs.Holds.{Holds, IsDamage}
 use Rattle.aria_engine.specs.Store.{SameFaults, StillHolds}
 use Rattle.aria_engine.specs.Done.{Leaves}
 use Rattle.aria_engine.proofs.Leaving.{leaves_none}
 use Rattle.aria_tools.specs.declared.stop.Stop.{Stop}
 use Rattle.aria_tools.specs.declared.stop.Stop.TheVariants.{Memory, Disk, LogDamaged, NotOurs, Input, Tell, TooLong}
-use Rattle.aria_tools.specs.Stops.{status_of, damage_of, damage_text}
-use Rattle.aria_tools.specs.Endings.{Supply, StopsBy, Ends, AnswersAll, AnswersPart, AnswersBy, AnswersEnded, AnswersFull, Answered, WasSound, Runs, Prefix, IsEnd, IsEndText, IsStatusText, TellsText, TellsErr, TellsStatus, status_of_run}
+use Rattle.aria_tools.specs.Stops.{damage_of}
+use Rattle.aria_tools.specs.Endings.{Supply, StopsBy, Ends, AnswersAll, AnswersBy, AnswersEnded, AnswersFull, Answered, WasSound, Runs, Prefix, IsEnd, IsEndText, IsStatusText, TellsText, TellsErr, status_of_run}
 use Rattle.aria_tools.proofs.Pieces.{rose_since, same_faults_more}
 
 -- in the words of the whole run

@@ -2,14 +2,13 @@
 use Rattle.std.proofs.Common.{◌≡◌, ℕ, zero, suc, ◌+◌, ◌-◌, ◌/◌, ◌≤◌, Bool, false, ◌||◌, List, [], ◌∷◌, ◌++◌, length, take, true, cond, Option, Result, refl, sym, ap, subst, ◌∙◌, arith}
 use Rattle.std.specs.Prelude.{not}
 use Rattle.std.specs.List.{flat_map, list_any}
-use Rattle.aria_host.specs.State.{Folder, State, LeavesOnly}
+use Rattle.aria_host.specs.State.{Folder, State}
 use Rattle.aria_host.proofs.Moments.{weakened}
 use Rattle.aria_model.specs.World.{World}
 use Rattle.std.proofs.lemmas.List.{length-take}
 use Rattle.std.proofs.lemmas.List.Elements.{All-weaker}
 use Rattle.aria_engine.specs.Holds.{Holds}
 use Rattle.aria_model.specs.Script.{Exceptions, statements, after, world_after, outcomes, told, acknowledged, is_refused, outcome_text}
-use Rattle.aria_model.specs.declared.refusal.Exception.{Exception}
 use Rattle.aria_model.specs.Grammar.{read_line, is_blank_line}
 use Rattle.aria_model.specs.Step.{Outcome, answered, step}
 use Rattle.aria_model.specs.declared.statement.Statement.{Statement}

@@ -2,17 +2,17 @@
 use Rattle.std.proofs.Common.{◌≡◌, ℕ, ◌+◌, ◌-◌, ◌^◌, ◌≤◌, min, Bool, List, [], ◌++◌, length, take, refl, sym, ap, subst, ◌∙◌, arith}
 use Rattle.std.proofs.lemmas.List.{append_assoc, length-append, length-take-le}
 use Rattle.aria_host.specs.State.{State}
-use Rattle.aria_model.specs.Script.{Exceptions, lines_of, ended_lines}
+use Rattle.aria_model.specs.Script.{lines_of, ended_lines}
 use Rattle.aria_model.proofs.Lines.{ended_lines-front}
 use Rattle.aria_tools.specs.declared.stop.Stop.{Stop}
 use Rattle.aria_tools.specs.declared.stop.Stop.TheVariants.{Memory, Disk, LogDamaged, NotOurs, Input, Tell, TooLong}
 use Rattle.aria_tools.specs.Held.{Splits}
 use Rattle.aria_engine.specs.declared.store.Store.{Store}
-use Rattle.aria_engine.specs.Store.{tables_of, count_of, SameFaults, NoFewerFaults}
-use Rattle.aria_engine.specs.Done.{Does, DoesPart, AreMet}
+use Rattle.aria_engine.specs.Store.{SameFaults, NoFewerFaults}
+use Rattle.aria_engine.specs.Done.{Does, DoesPart}
 use Rattle.aria_engine.proofs.Doing.{does_more, does_part, does_then_part, does_part_more}
 use Rattle.aria_tools.specs.Stops.{IsLineStop}
-use Rattle.aria_tools.specs.Endings.{Supply, Counts, Took, TookFew, StopsBy, AnswersBy}
+use Rattle.aria_tools.specs.Endings.{Supply, Counts, Took, TookFew}
 use Rattle.aria_tools.specs.Pieces.{Fed, TakesPiece, NoPiece}
 use Rattle.aria_tools.specs.Sessions.{LineStops}
 use Rattle.aria_tools.proofs.Splitting.{splits_more}

@@ -1,22 +1,21 @@
 -- A whole run, from what is done where its input ends or it stops.
-use Rattle.std.proofs.Common.{◌≡◌, ℕ, ◌+◌, ◌^◌, ◌<◌, ◌≤◌, Bool, false, List, [], ◌++◌, length, IsTrue, Result, Ok, Err, refl, sym, ap, subst, ◌∙◌, arith, zero-add}
+use Rattle.std.proofs.Common.{◌≡◌, ℕ, ◌+◌, ◌^◌, ◌≤◌, Bool, false, List, [], ◌++◌, length, IsTrue, Result, Ok, Err, refl, sym, ap, subst, ◌∙◌, arith, zero-add}
 use Rattle.std.specs.Prelude.{All, IfOk, IfErr, OnErr, OnOk}
 use Rattle.std.proofs.lemmas.List.{append-nil}
-use Rattle.std.proofs.Math.Seq.{take-length}
-use Rattle.aria_host.specs.State.{Folder, State, LeavesOnly}
+use Rattle.aria_host.specs.State.{State}
 use Rattle.aria_model.specs.declared.refusal.Met.{Met}
 use Rattle.aria_model.specs.World.{World}
-use Rattle.aria_model.specs.Script.{Exceptions, lines_of, ended_lines, statements, world_after, after, told, any_refused, acknowledged}
+use Rattle.aria_model.specs.Script.{Exceptions, lines_of, ended_lines, told}
 use Rattle.aria_model.specs.Journal.{met_at}
 use Rattle.aria_engine.specs.declared.store.Store.{Store}
-use Rattle.aria_engine.specs.Holds.{Holds, EachHolds, AreLogAlone, AtRest, IsSettled}
-use Rattle.aria_engine.specs.Store.{tables_of, count_of, pages_of, met_of, IsFresh, SameFaults, NoFewerFaults}
-use Rattle.aria_engine.specs.Done.{Leaves, Does, DoesPart, AreMet, IsFull, Counts as Tallies}
+use Rattle.aria_engine.specs.Holds.{Holds}
+use Rattle.aria_engine.specs.Store.{count_of, pages_of, met_of, IsFresh, SameFaults, NoFewerFaults}
+use Rattle.aria_engine.specs.Done.{Does, DoesPart, AreMet, IsFull}
 use Rattle.aria_engine.proofs.Running.{running_holds, running_rests, running_settled}
 use Rattle.aria_engine.proofs.Doing.{does_more, does_then_part}
 use Rattle.aria_tools.specs.declared.stop.Stop.{Stop}
 use Rattle.aria_tools.specs.Stops.{IsLineStop}
-use Rattle.aria_tools.specs.Endings.{Supply, Took, StopsBy, Ends, Runs, Prefix}
+use Rattle.aria_tools.specs.Endings.{Supply, Took}
 use Rattle.aria_tools.specs.Pieces.{Fed, IsReady}
 use Rattle.aria_tools.specs.Sessions.{LineStops, RunsOn, RunsFrom}
 use Rattle.aria_tools.proofs.Pieces.{line_stops, same_faults_more, no_fewer_more, no_fewer_same}

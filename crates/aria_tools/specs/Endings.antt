@@ -1,5 +1,5 @@
 -- How a run ends: what of the input was taken, what was told of it, what a crash may leave, and why it stopped.
-use Rattle.std.specs.Prelude.{◌≡◌, ◌≢◌, ◌⊎◌, Option, Some, ℕ, ◌+◌, ◌-◌, ◌^◌, ◌≤◌, min, Bool, IsTrue, ◌==◌, if◌then◌else◌, List, [], ◌∷◌, ◌++◌, take, drop, length, codes, Result, Ok, Err, false, true}
+use Rattle.std.specs.Prelude.{◌≡◌, ◌≢◌, ◌⊎◌, Some, ℕ, ◌+◌, ◌-◌, ◌^◌, ◌≤◌, min, Bool, IsTrue, ◌==◌, if◌then◌else◌, List, [], ◌∷◌, ◌++◌, take, drop, length, codes, Result, Ok, Err, false, true}
 use Rattle.aria_host.specs.Count.{Rose}
 use Rattle.aria_host.specs.State.{Folder, State, LeavesOnly}
 use Rattle.aria_host.specs.Calls.{SameImages}
@@ -7,7 +7,7 @@ use Rattle.aria_host.specs.declared.fault.Fault.{Fault}
 use Rattle.aria_host.specs.declared.fault.Fault.TheVariants as faults
 use Rattle.aria_model.specs.World.{World}
 use Rattle.aria_model.specs.Script.{Exceptions, lines_of, ended_lines, statements, world_after, after, told, any_refused, acknowledged}
-use Rattle.aria_engine.specs.Holds.{Holds, IsDamage, AtRest, IsSettled, AreLogAlone}
+use Rattle.aria_engine.specs.Holds.{Holds, IsDamage, AtRest, IsSettled}
 use Rattle.aria_engine.specs.Store.{SameFaults}
 use Rattle.aria_engine.specs.Done.{Leaves}
 use Rattle.aria_tools.specs.declared.stop.Stop.{Stop}

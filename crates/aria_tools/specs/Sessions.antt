@@ -1,5 +1,5 @@
 -- How a run on an opened store ends.
-use Rattle.std.specs.Prelude.{◌≡◌, ℕ, Bool, IsTrue, None, List, Result, IfErr, All}
+use Rattle.std.specs.Prelude.{◌≡◌, Bool, IsTrue, None, List, Result, IfErr, All}
 use Rattle.aria_host.specs.State.{State}
 use Rattle.aria_model.specs.declared.refusal.Met.{Met}
 use Rattle.aria_model.specs.Script.{Exceptions, lines_of}

@@ -1,5 +1,5 @@
 use Rattle.std.proofs.lemmas.Result.{err_from_is_err_and}
-use Rattle.std.specs.Prelude.{Result, Bool, IfErr}
+use Rattle.std.specs.Prelude.{Result, IfErr}
 use Rattle.aria_tools.specs.declared.stop.Stop.{Stop}
 use Rattle.aria_tools.specs.Sessions.{LineStops}
 use Rattle.aria_tools.proofs.Pieces.{no_piece_stops, line_stops}

@@ -1,4 +1,3 @@
-use Rattle.std.proofs.Common.{ap}
 use Rattle.aria_engine.specs.Store.{tables_of}
 use Rattle.aria_engine.proofs.Running.{holds_one}
 use Rattle.aria_model.specs.Journal.{met_at}

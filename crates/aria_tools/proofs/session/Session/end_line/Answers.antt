@@ -1,4 +1,4 @@
-use Rattle.std.proofs.Common.{List, ℕ, false, [], ◌∷◌, ◌++◌, ◌∙◌, ◌||◌, Bool, refl, sym, ap, subst}
+use Rattle.std.proofs.Common.{List, ℕ, false, [], ◌∷◌, ◌++◌, ◌∙◌, Bool, refl, sym, subst}
 use Rattle.aria_engine.specs.Done.{Does, DoesPart}
 use Rattle.aria_engine.proofs.Doing.{does_none}
 use Rattle.aria_tools.proofs.Holding.{on_err}

@@ -1,4 +1,4 @@
-use Rattle.std.proofs.Common.{List, ℕ, [], ◌∷◌, ◌++◌, refl, sym, subst, arith}
+use Rattle.std.proofs.Common.{List, ℕ, [], ◌∷◌, ◌++◌, refl, sym, subst}
 use Rattle.aria_model.specs.Script.{ended_lines}
 use Rattle.aria_tools.specs.Held.{Splits}
 use Rattle.aria_engine.specs.Done.{Does}
