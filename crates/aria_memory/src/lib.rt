@@ -20,5 +20,3 @@ pub use tables::Tables;
 
 #[cfg(test)]
 mod tests;
-#[cfg(test)]
-mod tests_by_key;

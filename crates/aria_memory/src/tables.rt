@@ -100,15 +100,15 @@ impl Tables {
         alloc: Global,
         name: Name,
         key: Name,
-        values: &[Value],
+        sought: &[Value],
         settings: &[Setting],
         spent: Option<u32>,
     ) -> Result<Reply, AllocError>
-        ensures { IfOk result (λ reply. Leaves (update (world_of self.old) name key values.now settings.now (option_map Spent spent)) (world_of self.new) reply) }
+        ensures { IfOk result (λ reply. Leaves (update (world_of self.old) name key sought.now settings.now (option_map Spent spent)) (world_of self.new) reply) }
     {
         match self.by_name.get_mut(&name) {
             None => Ok(Reply::No(Refusal::NoTable { name })),
-            Some(table) => table.update(alloc, key, values, settings, spent),
+            Some(table) => table.update(alloc, key, sought, settings, spent),
         }
     }
 

@@ -27,19 +27,19 @@ use std::collections::BTreeMap;
 pub(crate) fn bad_update(
     definition: &Definition,
     number: usize,
-    values: &[Value],
+    sought: &[Value],
     settings: &[Setting],
 ) -> Option<Refusal>
     requires defined { IsTrue (is_definition definition.now) }
     requires number { number < length definition.now.keys }
-    ensures { result ≡ first_of (unknown_column definition.now.columns settings.now ∷ bad_value (bad_sought definition.now.columns [] (key_columns definition.now.keys number) values.now) ∷ bad_value (bad_setting definition.now settings.now) ∷ []) }
+    ensures { result ≡ first_of (unknown_column definition.now.columns settings.now ∷ bad_value (bad_sought definition.now.columns [] (key_columns definition.now.keys number) sought.now) ∷ bad_value (bad_setting definition.now settings.now) ∷ []) }
 {
     let columns = definition.columns.as_slice();
     match unknown_column(columns, settings) {
         Some(why) => return Some(why),
         None => {}
     }
-    match bad_sought(columns, key_columns(definition.keys.as_slice(), number), values) {
+    match bad_sought(columns, key_columns(definition.keys.as_slice(), number), sought) {
         Some(column) => return Some(Refusal::BadValue { column }),
         None => {}
     }

@@ -20,8 +20,8 @@ returns-in-None c = λ world name has.
     let table = c.args.self.now in
     let exception = option_map Spent c.args.spent in
     let none : key_number table.definition.keys c.args.key ≡ None = ap (λ keys. key_number keys c.args.key) (sym c.as_slice.ensures) ∙ sym c.key_number.ensures ∙ c.in-None.is in
-    leaves_same world name (table_of table) (update world name c.args.key c.args.values.now c.args.settings.now exception) (NoKey c.args.key) has
-    (update_keyless world name table.definition (values table.rows) c.args.key c.args.values.now c.args.settings.now exception has none)
+    leaves_same world name (table_of table) (update world name c.args.key c.args.sought.now c.args.settings.now exception) (NoKey c.args.key) has
+    (update_keyless world name table.definition (values table.rows) c.args.key c.args.sought.now c.args.settings.now exception has none)
 
 pub bad_update-requires-clause-number : goal.bad_update-requires-clause-number
 bad_update-requires-clause-number c =
@@ -35,10 +35,10 @@ returns-in-Some-bad_update c = λ world name has.
     let number = c.in-Some.number in
     let exception = option_map Spent c.args.spent in
     let is : key_number table.definition.keys c.args.key ≡ Some number = ap (λ keys. key_number keys c.args.key) (sym c.as_slice.ensures) ∙ sym c.key_number.ensures ∙ c.in-Some.is in
-    let bad : bad_first table.definition c.args.values.now c.args.settings.now number ≡ Some c.in-Some-bad_update.why = sym c.bad_update.ensures ∙ c.in-Some-bad_update.is in
-    leaves_same world name (table_of table) (update world name c.args.key c.args.values.now c.args.settings.now exception) c.in-Some-bad_update.why has
-    (update_is world name table.definition rows c.args.key c.args.values.now c.args.settings.now exception number (Some c.in-Some-bad_update.why)
-      (concerned table.definition number c.args.values.now rows) has is bad (λ i. concerned table.definition number c.args.values.now rows))
+    let bad : bad_first table.definition c.args.sought.now c.args.settings.now number ≡ Some c.in-Some-bad_update.why = sym c.bad_update.ensures ∙ c.in-Some-bad_update.is in
+    leaves_same world name (table_of table) (update world name c.args.key c.args.sought.now c.args.settings.now exception) c.in-Some-bad_update.why has
+    (update_is world name table.definition rows c.args.key c.args.sought.now c.args.settings.now exception number (Some c.in-Some-bad_update.why)
+      (concerned table.definition number c.args.sought.now rows) has is bad (λ i. concerned table.definition number c.args.sought.now rows))
 
 pub returns-then-count-gt-MAX_STATEMENT_ROWS : goal.returns-then-count-gt-MAX_STATEMENT_ROWS
 returns-then-count-gt-MAX_STATEMENT_ROWS c = λ world name has.
@@ -46,7 +46,7 @@ returns-then-count-gt-MAX_STATEMENT_ROWS c = λ world name has.
     let d = table.definition in
     let rows = values table.rows in
     let number = c.in-Some.number in
-    let sought = c.args.values.now in
+    let sought = c.args.sought.now in
     let settings = c.args.settings.now in
     let exception = option_map Spent c.args.spent in
     let all = concerned d number sought rows in
@@ -65,7 +65,7 @@ returns-in-Some-spent c = λ world name has.
     let d = table.definition in
     let rows = values table.rows in
     let number = c.in-Some.number in
-    let sought = c.args.values.now in
+    let sought = c.args.sought.now in
     let settings = c.args.settings.now in
     let exception = option_map Spent c.args.spent in
     let all = concerned d number sought rows in
@@ -84,7 +84,7 @@ returns-in-Some-2 c = λ world name has.
     let d = table.definition in
     let rows = values table.rows in
     let number = c.in-Some.number in
-    let sought = c.args.values.now in
+    let sought = c.args.sought.now in
     let settings = c.args.settings.now in
     let exception = option_map Spent c.args.spent in
     let all = concerned d number sought rows in
@@ -113,7 +113,7 @@ returns-in-None-2 c = λ world name has.
     let d = table.definition in
     let rows = values table.rows in
     let number = c.in-Some.number in
-    let sought = c.args.values.now in
+    let sought = c.args.sought.now in
     let settings = c.args.settings.now in
     let exception = option_map Spent c.args.spent in
     let all = concerned d number sought rows in
