@@ -102,7 +102,8 @@ fn are_all_keys(columns: &[Column], keys: &[Key]) -> bool
     keys.iter().all(|key| is_key(columns, key))
 }
 
-fn are_keys(columns: &[Column], keys: &[Key]) -> bool
+/// Whether a table of these columns may have the keys.
+pub fn are_keys(columns: &[Column], keys: &[Key]) -> bool
     ensures { result ≡ are_keys columns.now keys.now }
 {
     !keys.is_empty()
@@ -182,7 +183,8 @@ fn entry_fits(definition: &Definition, key: usize) -> bool
     }
 }
 
-fn entries_fit(definition: &Definition) -> bool
+/// Whether each key has entries that are short enough.
+pub fn entries_fit(definition: &Definition) -> bool
     ensures { result ≡ entries_fit definition.now (length definition.now.keys) }
 {
     for key in 0..definition.keys.len() {

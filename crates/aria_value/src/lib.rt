@@ -18,6 +18,7 @@ mod row_of;
 mod stored;
 mod value;
 
+pub use defined::{are_keys, entries_fit};
 pub use definition::{
     Column, ColumnType, Definition, Key, MAX_COLUMNS, MAX_ENTRY_BYTES, MAX_KEYS, MAX_ROWS,
     MAX_TEXT_BYTES,
