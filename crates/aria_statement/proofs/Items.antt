@@ -1,6 +1,5 @@
 -- Items read one after another.
-use Rattle.std.proofs.Common.{◌≡◌, ℕ, zero, suc, ◌<◌, ◌≤◌, List, [], ◌∷◌, ◌++◌, length, Option, Some, None, Result, Ok, Err, refl, sym, ap, subst, ◌∙◌, append_assoc, arith}
-use Rattle.std.specs.List.{AllByRecursion}
+use Rattle.std.proofs.Common.{◌≡◌, ℕ, zero, suc, ◌<◌, ◌≤◌, List, [], ◌∷◌, ◌++◌, length, Option, Some, None, Result, Ok, Err, refl, sym, ap, ◌∙◌, append_assoc, arith}
 use Rattle.aria_model.specs.declared.refusal.Refusal.{Refusal}
 use Rattle.aria_model.specs.Grammar.{Tokens, ◌>>=◌, bad, items_within, items}
 use Rattle.aria_statement.specs.declared.fault.ParseFault.{ParseFault}
@@ -100,28 +99,24 @@ pub is_fault : {A : Type 0} (item : Reader A) (another : Tokens → Option Token
 is_fault item another front ts total (Memory error) short e so_far = tt
 is_fault item another front ts total (Refused why) short e so_far = is_refused item another front ts total why short e so_far
 
--- Fewer tokens are left behind items, and each is as its reader makes it.
-pub record AreItems {A : Type 0} (P : A → Type 0) (ts : Tokens) (x : List A × Tokens) : Type 0 where
-  pub shorter : length x.1 < length ts
-  pub each : AllByRecursion P x.0
-
-more_are : {A : Type 0} (P : A → Type 0) (others : Reader (List A)) (first : A) (ts behind : Tokens) (o : Option Tokens) (x : List A × Tokens)
-    → length behind < length ts → P first → ((rest : Tokens) → o ≡ Some rest → length rest ≤ length behind) → ((rest : Tokens) (y : List A × Tokens) → others rest ≡ Ok y → AreItems P rest y)
-    → more others first behind o ≡ Ok x → AreItems P ts x
-more_are P others first ts behind None x fewer is kept are e = subst (AreItems P ts) (done_same (first ∷ [], behind) x e) (record { shorter = fewer; each = (is, tt) })
-more_are P others first ts behind (Some rest) x fewer is kept are e =
+-- Fewer tokens are left behind items.
+more_shorter : {A : Type 0} (others : Reader (List A)) (first : A) (ts behind : Tokens) (o : Option Tokens) (x : List A × Tokens)
+    → length behind < length ts → ((rest : Tokens) → o ≡ Some rest → length rest ≤ length behind) → ((rest : Tokens) (y : List A × Tokens) → others rest ≡ Ok y → length y.1 < length rest)
+    → more others first behind o ≡ Ok x → length x.1 < length ts
+more_shorter {A} others first ts behind None x fewer kept are e =
+    let same = ap (λ (y : List A × Tokens). y.1) (done_same (first ∷ [], behind) x e) in
+    rw (← same) fewer
+more_shorter {A} others first ts behind (Some rest) x fewer kept are e =
     let b = bind_ok (others rest) _ x e in
-    let those = are rest b.0 b.1 in
-    subst (AreItems P ts) (done_same (first ∷ b.0.0, b.0.1) x b.2) (record { shorter = omega (arith, those.shorter, kept rest refl); each = (is, those.each) })
+    let same = ap (λ (y : List A × Tokens). y.1) (done_same (first ∷ b.0.0, b.0.1) x b.2) in
+    rw (← same) (omega (arith, fewer, are rest b.0 b.1, kept rest refl))
 
-are_within : {A : Type 0} (P : A → Type 0) (item : Reader A) (another : Tokens → Option Tokens) → Shortens item another → ((ts : Tokens) (x : A × Tokens) → item ts ≡ Ok x → P x.0)
-    → (n : ℕ) (ts : Tokens) (x : List A × Tokens) → items_within item another n ts ≡ Ok x → AreItems P ts x
-are_within P item another short is zero [] x e = absurd cc
-are_within P item another short is zero ((at, t) ∷ ts) x e = absurd cc
-are_within P item another short is (suc n) ts x e =
+within_shorter : {A : Type 0} (item : Reader A) (another : Tokens → Option Tokens) → Shortens item another → (n : ℕ) (ts : Tokens) (x : List A × Tokens) → items_within item another n ts ≡ Ok x → length x.1 < length ts
+within_shorter item another short zero [] x e = absurd cc
+within_shorter item another short zero ((at, t) ∷ ts) x e = absurd cc
+within_shorter item another short (suc n) ts x e =
     let b = bind_ok (item ts) (λ first. more (items_within item another n) first.0 first.1 (another first.1)) x (sym (within_step item another n ts) ∙ e) in
-    more_are P (items_within item another n) b.0.0 ts b.0.1 (another b.0.1) x (short.shorter ts b.0 b.1) (is ts b.0 b.1) (λ rest f. short.no_longer b.0.1 rest f) (λ rest y f. are_within P item another short is n rest y f) b.2
+    more_shorter (items_within item another n) b.0.0 ts b.0.1 (another b.0.1) x (short.shorter ts b.0 b.1) (λ rest f. short.no_longer b.0.1 rest f) (λ rest y f. within_shorter item another short n rest y f) b.2
 
-pub are_items : {A : Type 0} (P : A → Type 0) (item : Reader A) (another : Tokens → Option Tokens) → Shortens item another → ((ts : Tokens) (x : A × Tokens) → item ts ≡ Ok x → P x.0)
-    → (ts : Tokens) (x : List A × Tokens) → items item another ts ≡ Ok x → AreItems P ts x
-are_items P item another short is ts x e = are_within P item another short is (length ts) ts x e
+pub items_shorter : {A : Type 0} (item : Reader A) (another : Tokens → Option Tokens) → Shortens item another → (ts : Tokens) (x : List A × Tokens) → items item another ts ≡ Ok x → length x.1 < length ts
+items_shorter item another short ts x e = within_shorter item another short (length ts) ts x e

@@ -1,7 +1,12 @@
-pub mod Columns
+pub mod Ahead
+pub mod Collected
+pub mod Counting
+pub mod Defining
 pub mod Items
+pub mod Mapped
 pub mod Numbers
 pub mod Scanning
 pub mod Shorter
 pub mod Spelled
 pub mod Steps
+pub mod Texts

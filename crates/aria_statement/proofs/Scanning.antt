@@ -1,13 +1,14 @@
 -- Where the next token of a line stands, and what comes behind it.
-use Rattle.std.proofs.Common.{◌≡◌, ℕ, zero, suc, ◌+◌, ◌-◌, ◌<◌, ◌≤◌, Bool, true, false, cond, List, [], ◌∷◌, length, take, drop, Option, Some, None, refl, sym, ap, ◌∙◌, inl, inr, subst, leb, ℤ, ◌==◌, add-zero, arith}
+use Rattle.std.proofs.Common.{◌≡◌, ℕ, zero, suc, ◌+◌, ◌-◌, ◌<◌, ◌≤◌, Bool, true, false, cond, List, [], ◌∷◌, length, take, drop, Option, Some, None, refl, sym, ap, ◌∙◌, inl, inr, subst, leb, ℤ, ◌==◌, ◌&&◌, if◌then◌else◌, add-zero, arith}
 use Rattle.std.specs.List.{prefix_len, take_while, list_all}
-use Rattle.std.proofs.lemmas.Bool.{cases_Bool, cond-true, cond-false, or_left, and_from}
+use Rattle.std.proofs.lemmas.Bool.{cases_Bool, cond-true, cond-false, or_left, and_from, and_parts}
 use Rattle.std.proofs.lemmas.List.{drop-drop, length-take, length-take-le}
 use Rattle.std.proofs.lemmas.List.Sums.{prefix_len-le-length}
 use Rattle.aria_page.specs.Word.{begins_word, continues_word}
-use Rattle.aria_model.specs.Token.{Token, Word, Number, Wide, Sign, Stray, Spelled, is_blank, is_digit, is_sign, word_of, number_of, negative_of, token_at, tokens_from}
-use Rattle.aria_statement.specs.Lexing.{behind}
+use Rattle.aria_model.specs.Token.{Token, Word, Number, Wide, Quoted, Sign, Stray, Spelled, is_blank, is_digit, is_sign, word_of, number_of, negative_of, text_rest, hex_rest, quoted_of, begins_quote, behind_first, token_at, tokens_from}
+use Rattle.aria_statement.specs.Lexing.{behind, plain_at}
 use Rattle.aria_statement.proofs.Steps.{chosen}
+use Rattle.aria_statement.proofs.Texts.{text_rest_within, hex_rest_within}
 
 -- one more of those in front that pass a test
 prefix_len_more : (test : ℕ → Bool) (x : ℕ) (xs : List ℕ) → test x ≡ true → prefix_len test (x ∷ xs) ≡ suc (prefix_len test xs)
@@ -88,9 +89,21 @@ is_negative : (b : ℕ) (digits bytes : List ℕ) (spelled : Spelled) → length
 is_negative b [] bytes spelled within e = absurd cc
 is_negative b (d ∷ digits) bytes spelled within e = is_some (b ∷ bytes) (suc (length (d ∷ digits))) _ spelled (omega arith) (omega arith) (number_more _ _) e
 
-pub is_token : (bytes : List ℕ) (spelled : Spelled) → token_at bytes ≡ Some spelled → IsToken bytes spelled
-is_token [] spelled e = absurd cc
-is_token (b ∷ bytes) spelled e =
+-- a text in front, of which so many bytes open it
+is_text : (bytes : List ℕ) (opening limit : ℕ) (o : Option (List ℕ × ℕ)) (spelled : Spelled) → 0 < opening → opening + limit ≤ length bytes → ((text : List ℕ × ℕ) → o ≡ Some text → text.1 ≤ limit)
+    → quoted_of opening o ≡ Some spelled → IsToken bytes spelled
+is_text bytes opening limit None spelled some fits within e = absurd cc
+is_text bytes opening limit (Some text) spelled some fits within e =
+    is_some bytes (opening + text.1) (Quoted text.0) spelled (omega arith) (omega (arith, within text refl)) (λ ts. refl) e
+
+-- a hexadecimal text in front, behind its x
+is_hex : (b : ℕ) (bytes : List ℕ) (spelled : Spelled) → begins_quote bytes ≡ true → quoted_of 2 (hex_rest (behind_first bytes)) ≡ Some spelled → IsToken (b ∷ bytes) spelled
+is_hex b [] spelled begins e = absurd cc
+is_hex b (c ∷ bytes) spelled begins e = is_text (b ∷ c ∷ bytes) 2 (length bytes) (hex_rest bytes) spelled (omega arith) (omega arith) (hex_rest_within bytes) e
+
+-- a token in front that is no text
+is_plain : (b : ℕ) (bytes : List ℕ) (spelled : Spelled) → plain_at (b ∷ bytes) ≡ Some spelled → IsToken (b ∷ bytes) spelled
+is_plain b bytes spelled e =
     elim (chosen (begins_word b) _ _ _ e) [
       | inl (begins, is) ↦
           let one = prefix_len_more continues_word b bytes (or_left _ _ begins) in
@@ -108,6 +121,17 @@ is_token (b ∷ bytes) spelled e =
             | inr (other, rest) ↦ absurd cc
           ]
         ]
+      ]
+    ]
+
+pub is_token : (bytes : List ℕ) (spelled : Spelled) → token_at bytes ≡ Some spelled → IsToken bytes spelled
+is_token [] spelled e = absurd cc
+is_token (b ∷ bytes) spelled e =
+    elim (chosen (b == 39) _ _ _ e) [
+      | inl (quote, is) ↦ is_text (b ∷ bytes) 1 (length bytes) (text_rest bytes) spelled (omega arith) (omega arith) (text_rest_within bytes) is
+      | inr (other, rest) ↦ elim (chosen ((b == 120) && begins_quote bytes) _ _ _ rest) [
+        | inl (hex, is) ↦ is_hex b bytes spelled (and_parts (b == 120) (begins_quote bytes) hex).1 is
+        | inr (other, rest) ↦ is_plain b bytes spelled rest
       ]
     ]
 

@@ -1,2 +1,5 @@
 pub mod Lexing
 pub mod Reading
+pub mod Texts
+pub mod Writing
+pub mod Defining

@@ -1,7 +1,7 @@
 -- What a reader of the code answers, beside what a line spells.
-use Rattle.std.specs.Prelude.{◌≡◌, ℕ, List, Option, Some, None, Result, Ok, Err}
+use Rattle.std.specs.Prelude.{◌≡◌, ℕ, Bool, false, ◌==◌, List, ◌∷◌, Option, Some, None, Result, Ok, Err}
 use Rattle.aria_model.specs.declared.refusal.Refusal.{Refusal}
-use Rattle.aria_model.specs.Token.{Token}
+use Rattle.aria_model.specs.Token.{Token, Sign}
 use Rattle.aria_statement.specs.declared.fault.ParseFault.{ParseFault}
 use Rattle.aria_statement.specs.declared.fault.ParseFault.TheVariants.{Memory, Refused}
 use Rattle.aria_statement.specs.Lexing.{left}
@@ -30,3 +30,8 @@ seen_as view (Err why) = Err why
 abbrev pub left_if : List ℕ → Option ℕ → Option (List (ℕ × Token))
 left_if line None = None
 left_if line (Some at) = Some (left line at)
+
+-- a colon comes first
+abbrev pub begins_colon : List (ℕ × Token) → Bool
+begins_colon ((at, Sign found) ∷ ts) = found == 58
+begins_colon ts = false

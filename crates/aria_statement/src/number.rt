@@ -31,7 +31,7 @@ fn negated(value: u64) -> i64
 }
 
 /// The number of these digits.
-pub fn positive(digits: &[u8]) -> Token
+pub fn positive(digits: &[u8]) -> Token<'_>
     ensures { seen result ≡ (let n = digits_value 0 digits.now in if nat_lt n (2 ^ 63) then Number (pos n) else Wide) }
 {
     let value = value_of(digits);
@@ -43,7 +43,7 @@ pub fn positive(digits: &[u8]) -> Token
 }
 
 /// The number of a minus and these digits.
-pub fn negative(digits: &[u8]) -> Token
+pub fn negative(digits: &[u8]) -> Token<'_>
     ensures { seen result ≡ (let n = digits_value 0 digits.now in if nat_le n (2 ^ 63) then Number (minus n) else Wide) }
 {
     let value = value_of(digits);

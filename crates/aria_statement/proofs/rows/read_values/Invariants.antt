@@ -2,7 +2,7 @@ use Rattle.std.proofs.Common.{length}
 use Rattle.aria_model.specs.Grammar.{value, behind_comma, items}
 use Rattle.aria_statement.specs.Lexing.{left}
 use Rattle.aria_statement.proofs.Items.{SoFar}
-use Rattle.aria_statement.proofs.productions.read_values.Given as goal
+use Rattle.aria_statement.proofs.rows.read_values.Given as goal
 
 -- the values so far and those that are left are all
 abbrev pub invariant-loop-values : goal.invariant-loop-values

@@ -2,7 +2,7 @@ use Rattle.std.proofs.Common.{length}
 use Rattle.aria_model.specs.Grammar.{row, another_row, items}
 use Rattle.aria_statement.specs.Lexing.{left}
 use Rattle.aria_statement.proofs.Items.{SoFar}
-use Rattle.aria_statement.proofs.productions.read_rows.Given as goal
+use Rattle.aria_statement.proofs.rows.read_rows.Given as goal
 
 -- the rows so far and those that are left are all
 abbrev pub invariant-loop-rows : goal.invariant-loop-rows

@@ -4,7 +4,7 @@ use Rattle.aria_model.specs.Grammar.{row, another_row}
 use Rattle.aria_statement.specs.Lexing.{left}
 use Rattle.aria_statement.proofs.Items.{goes_on, is_done, is_fault}
 use Rattle.aria_statement.proofs.Shorter.{rows_shorten}
-use Rattle.aria_statement.proofs.productions.read_rows.Goals as goal
+use Rattle.aria_statement.proofs.rows.read_rows.Goals as goal
 
 pub returns-in_err-row : goal.returns-in_err-row
 returns-in_err-row c =
