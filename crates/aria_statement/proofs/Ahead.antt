@@ -3,7 +3,7 @@ use Rattle.std.proofs.Common.{◌≡◌, ℕ, Bool, true, false, cond, ◌&&◌,
 use Rattle.std.specs.Prelude.{codes}
 use Rattle.aria_value.specs.Defined.{same_name}
 use Rattle.aria_model.specs.declared.refusal.Refusal.{Refusal}
-use Rattle.aria_model.specs.Token.{Token, Word, Number, Wide, Quoted, Sign, End, Stray}
+use Rattle.aria_model.specs.Token.{Word, Number, Wide, Quoted, Sign, End, Stray}
 use Rattle.aria_model.specs.Grammar.{Tokens, another_column, max_rows, row_limit, the_end}
 use Rattle.aria_statement.specs.declared.written.WrittenKey.{WrittenKey as FoundKey}
 use Rattle.aria_statement.specs.Reading.{seen_as, begins_colon}

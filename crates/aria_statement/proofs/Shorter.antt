@@ -1,5 +1,5 @@
 -- Each reader leaves fewer tokens than it was given.
-use Rattle.std.proofs.Common.{◌≡◌, ℕ, suc, ◌+◌, ◌<◌, ◌≤◌, ◌==◌, List, [], ◌∷◌, length, Some, Ok, refl, ap, inl, inr, arith, ℤ}
+use Rattle.std.proofs.Common.{◌≡◌, ℕ, suc, ◌<◌, ◌≤◌, ◌==◌, List, [], ◌∷◌, length, Some, Ok, refl, ap, inl, inr, arith, ℤ}
 use Rattle.std.specs.Prelude.{codes}
 use Rattle.aria_value.specs.declared.value.Value.{Value}
 use Rattle.aria_value.specs.Defined.{same_name}

@@ -1,6 +1,5 @@
-use Rattle.std.proofs.Common.{◌≡◌, ◌<◌, length, Some, sym, arith}
+use Rattle.std.proofs.Common.{◌<◌, length, sym, arith}
 use Rattle.std.proofs.lemmas.List.{length-take-le}
-use Rattle.aria_statement.specs.Texts.{hex_length}
 use Rattle.aria_statement.proofs.Texts.{hex_within}
 use Rattle.aria_statement.proofs.lexer.hex_of.Goals as goal
 

@@ -1,4 +1,3 @@
-use Rattle.std.proofs.Common.{◌∙◌, refl, rules, arith}
 use Rattle.aria_statement.proofs.Texts.{second_passed}
 use Rattle.aria_statement.proofs.text.undoubled.Goals as goal
 
