@@ -85,6 +85,7 @@ impl MemHost {
         ensures same { SameRecord self.old self.new }
         ensures plan { SamePlan self.old self.new }
         ensures calls { self.new.calls ≡ self.old.calls }
+        ensures faults { (self.new.disk_faults ≡ self.old.disk_faults) × (self.new.tell_faults ≡ self.old.tell_faults) }
     {
         self.changes.reserve(calls as usize)?;
         self.out.reserve(told as usize)?;
@@ -98,6 +99,7 @@ impl MemHost {
         ensures stop { self.new.stop ≡ self.old.stop }
         ensures same { SameRecord self.old self.new }
         ensures calls { self.new.calls ≡ self.old.calls }
+        ensures faults { (self.new.disk_faults ≡ self.old.disk_faults) × (self.new.tell_faults ≡ self.old.tell_faults) }
     {
         self.planned.push(call)?;
         Ok(())
@@ -109,6 +111,7 @@ impl MemHost {
         ensures planned { self.new.planned.items ≡ self.old.planned.items }
         ensures same { SameRecord self.old self.new }
         ensures calls { self.new.calls ≡ self.old.calls }
+        ensures faults { (self.new.disk_faults ≡ self.old.disk_faults) × (self.new.tell_faults ≡ self.old.tell_faults) }
     {
         self.stop = Some(call);
     }
