@@ -1,17 +1,12 @@
 -- The outcome of each statement that seeks values by a key, case by case.
 use Rattle.std.specs.Prelude.{◌≡◌, ℕ, zero, suc, ◌<◌, ◌≤◌, Bool, true, false, not, ◌==◌, nat_lt, cond, List, [], ◌∷◌, ◌++◌, length, filter, Option, Some, None, refl}
-use Rattle.std.specs.List.{list_all}
 use Rattle.std.specs.Ordering.{is_lt, is_gt}
 use Rattle.std.specs.declared.cmp.Ordering.{Ordering}
 use Rattle.std.proofs.Common.{sym, ap, ◌∙◌, arith, length-append}
-use Rattle.std.proofs.lemmas.Bool.{and_parts, leb-true, eqb-true}
+use Rattle.std.proofs.lemmas.Bool.{eqb-true}
 use Rattle.aria_value.specs.declared.value.Value.{Value}
-use Rattle.aria_value.specs.declared.definition.Column.{Column}
-use Rattle.aria_value.specs.declared.definition.Key.{Key}
 use Rattle.aria_value.specs.declared.definition.Definition.{Definition}
-use Rattle.aria_value.specs.Defined.{same_name, is_key, is_definition}
 use Rattle.aria_value.specs.Order.{key_columns, key_cmp, put, sorted}
-use Rattle.aria_value.proofs.Definitions.{definition_is}
 use Rattle.aria_model.specs.declared.refusal.Refusal.{Refusal}
 use Rattle.aria_model.specs.declared.refusal.Refusal.TheVariants.{NoKey, NoTable, TooManyRows, TableCrashed}
 use Rattle.aria_model.specs.declared.refusal.Exception.{Exception}
@@ -20,35 +15,11 @@ use Rattle.aria_model.specs.declared.statement.Statement.TheVariants.{Delete}
 use Rattle.aria_model.specs.World.{World, Table, Content, Sound, Crashed, with_table}
 use Rattle.aria_model.specs.Step.{Outcome, refused, first_of, refused_where, unless, spent, bad_value, option_suc, key_number, spent_for, bad_sought, has_values, concerned, others, by_key, with_content, with_rows, on_table, too_many, select, delete}
 use Rattle.aria_model.specs.Journal.{concerns_some, changes}
-use Rattle.aria_memory.specs.Keyed.{are_columns_of}
 use Rattle.aria_memory.specs.Seeking.{seek_refusal, deleted}
 use Rattle.aria_memory.proofs.Worlds.{with_table_same}
 use Rattle.aria_memory.proofs.Outcomes.{sound, no_rows_unless}
 
 -- ---- the key that is named
-
-rest_is : (same : Bool) (rest : Option ℕ) (n : ℕ) → cond same (Some 0) (option_suc rest) ≡ Some (suc n) → rest ≡ Some n
-rest_is true rest n is = absurd (cc)
-rest_is false None n is = absurd (cc)
-rest_is false (Some m) n is =
-    let one : suc m ≡ suc n = cc in
-    let same : m ≡ n = omega arith in
-    ap Some same
-
-key_among : (columns : List Column) (keys : List Key) (wanted : List ℕ) (n : ℕ) → list_all (is_key columns) keys ≡ true → key_number keys wanted ≡ Some n
-    → (0 < length (key_columns keys n)) × (are_columns_of columns (key_columns keys n) ≡ true)
-key_among columns [] wanted n all is = absurd (cc)
-key_among columns (key ∷ keys) wanted zero all is =
-    let first = and_parts _ _ (and_parts _ _ (and_parts _ _ all).0).0 in
-    let some : 1 ≤ length key.columns = leb-true 1 (length key.columns) first.0 in
-    (omega arith, first.1)
-key_among columns (key ∷ keys) wanted (suc n) all is =
-    key_among columns keys wanted n (and_parts _ _ all).1 (rest_is (same_name key.name wanted) (key_number keys wanted) n is)
-
--- it has columns, and each is one of the table's
-pub named_key : (d : Definition) (wanted : List ℕ) (n : ℕ) → is_definition d ≡ true → key_number d.keys wanted ≡ Some n
-    → (0 < length (key_columns d.keys n)) × (are_columns_of d.columns (key_columns d.keys n) ≡ true)
-named_key d wanted n is named = key_among d.columns d.keys wanted n (and_parts _ _ (definition_is d is).keys).1 named
 
 -- the refusal by the number of a key
 abbrev seek_refusal_at : Definition → List ℕ → List Value → Option ℕ → Option Refusal

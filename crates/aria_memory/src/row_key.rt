@@ -5,6 +5,7 @@ ghost use Rattle.std.specs.Ordering.{as_partial_cmp, eq_by_cmp};
 ghost use Rattle.aria_value.specs.ValueOrder.{value_total};
 ghost use Rattle.aria_memory.specs.Keyed.{values_cmp};
 
+use crate::rows::copies;
 use aria_page::List;
 use aria_value::Value;
 use std::alloc::{AllocError, Global};
@@ -47,11 +48,7 @@ impl RowKey {
     pub(crate) fn from_slice(alloc: Global, values: &[Value]) -> Result<RowKey, AllocError>
         ensures { IfOk result (λ key. key ≡ values.now) }
     {
-        let mut copies = List::new(alloc);
-        for value in values {
-            copies.push(value.copy(alloc)?)?;
-        }
-        Ok(RowKey::new(copies))
+        Ok(RowKey::new(copies(alloc, values)?))
     }
 
     /// A copy of the key.

@@ -37,15 +37,15 @@ fn value_at(alloc: Global, row: &[Value], column: u8) -> Result<Value, AllocErro
     }
 }
 
-/// A copy of a row.
-pub(crate) fn copies(alloc: Global, row: &[Value]) -> Result<Row, AllocError>
-    ensures { IfOk result (λ copies. copies ≡ row.now) }
+/// Copies of values.
+pub(crate) fn copies(alloc: Global, values: &[Value]) -> Result<List<Value>, AllocError>
+    ensures { IfOk result (λ copies. copies ≡ values.now) }
 {
-    let mut values = List::new(alloc);
-    for value in row {
-        values.push(value.copy(alloc)?)?;
+    let mut copies = List::new(alloc);
+    for value in values {
+        copies.push(value.copy(alloc)?)?;
     }
-    Ok(values)
+    Ok(copies)
 }
 
 /// Copies of the values that a row has in some columns.
