@@ -3,3 +3,7 @@ pub mod RowOf
 pub mod StoredRows
 pub mod Definitions
 pub mod StoredDefinitions
+pub mod Ordering
+pub mod Entries
+pub mod KeptRows
+pub mod Headers

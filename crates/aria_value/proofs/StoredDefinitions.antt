@@ -1,17 +1,18 @@
 -- A definition that is read is the one that was stored, and what was stored is read again.
-use Rattle.std.proofs.Common.{◌≡◌, ℕ, zero, suc, ◌^◌, ◌<◌, true, ◌&&◌, nat_le, cond, eqb, List, [], ◌∷◌, ◌++◌, length, Option, Some, None, Result, Ok, Err, refl, sym, ap, subst, ◌∙◌, append_assoc, arith, lit<}
-use Rattle.std.specs.Prelude.{IsTrue, IfSome, IfOk}
-use Rattle.std.specs.List.{list_all, AllByRecursion}
+use Rattle.std.proofs.Common.{◌≡◌, ℕ, zero, suc, ◌*◌, ◌^◌, ◌<◌, ◌≤◌, true, ◌&&◌, nat_le, cond, eqb, List, [], ◌∷◌, ◌++◌, length, Option, Some, None, Result, Ok, Err, refl, sym, ap, subst, ◌∙◌, append_assoc, arith, lit<}
+use Rattle.std.specs.Prelude.{IsTrue, IfSome, IfOk, All}
+use Rattle.std.specs.List.{flat_map, list_all, AllByRecursion}
 use Rattle.std.proofs.lemmas.Bool.{eqb-true, leb-true, and_parts}
-use Rattle.std.proofs.lemmas.List.{append-nil, nil_from_length}
+use Rattle.std.proofs.lemmas.List.{append-nil, nil_from_length, length-append}
+use Rattle.std.proofs.lemmas.List.Elements.{recursion_from_All}
 use Rattle.std.proofs.lemmas.Option.{same_Some, cond_some}
 use Rattle.aria_page.specs.Field.{◌>>=◌, AreBytes, Takes}
 use Rattle.aria_page.specs.Number.{number, number_at}
 use Rattle.aria_page.specs.Text.{name_bytes, name_at}
 use Rattle.aria_page.specs.Word.{is_word}
 use Rattle.aria_page.proofs.Fields.{bind_some, Takes-then}
-use Rattle.aria_page.proofs.Numbers.{number-one, number_takes, number_again}
-use Rattle.aria_page.proofs.Texts.{name_takes, name_again}
+use Rattle.aria_page.proofs.Numbers.{length-number, number-one, number_takes, number_again}
+use Rattle.aria_page.proofs.Texts.{word_length, name_takes, name_again}
 use Rattle.aria_value.specs.declared.definition.ColumnType.{ColumnType}
 use Rattle.aria_value.specs.declared.definition.ColumnType.TheVariants.{Int, Text}
 use Rattle.aria_value.specs.declared.definition.Column.{Column}
@@ -137,11 +138,11 @@ parts_take bytes x fits e =
     let made : Definition × List ℕ = (record { columns = a.0.0; keys = b.0.0; max_rows = c.0.0 }, c.0.1) in
     subst (λ (y : Definition × List ℕ). Takes bytes (definition_bytes y.0) y.1 × PartsFit y.0) (same_Some made x c.2) (all, record { columns = first.1; keys = second.1 })
 
--- the numbers of columns, of keys and of rows are stored whole
-record Counts (d : Definition) : Type 0 where
-  columns : length d.columns < 256
-  keys : length d.keys < 256
-  rows : d.max_rows < 2 ^ 32
+-- the numbers of columns, of keys and of rows
+pub record Counts (d : Definition) : Type 0 where
+  pub columns : length d.columns ≤ 32
+  pub keys : length d.keys ≤ 8
+  pub rows : d.max_rows < 2 ^ 32
 
 parts_again : (d : Definition) (rest : List ℕ) → PartsFit d → Counts d → read_parts (definition_bytes d ++ rest) ≡ Some (d, rest)
 unfolding read_parts
@@ -150,18 +151,18 @@ parts_again d rest fits counts =
     append_assoc (list_bytes column_bytes d.columns) (list_bytes key_bytes d.keys ++ number 4 d.max_rows) rest ∙ ap (λ (x : List ℕ). list_bytes column_bytes d.columns ++ x) (append_assoc (list_bytes key_bytes d.keys) (number 4 d.max_rows) rest) in
     ap read_parts regrouped
     ∙ rw (
-      list_again column_bytes ColumnFits read_column columns_read d.columns (list_bytes key_bytes d.keys ++ (number 4 d.max_rows ++ rest)) counts.columns fits.columns,
-      list_again key_bytes KeyFits read_key keys_read d.keys (number 4 d.max_rows ++ rest) counts.keys fits.keys,
+      list_again column_bytes ColumnFits read_column columns_read d.columns (list_bytes key_bytes d.keys ++ (number 4 d.max_rows ++ rest)) (omega (arith, counts.columns)) fits.columns,
+      list_again key_bytes KeyFits read_key keys_read d.keys (number 4 d.max_rows ++ rest) (omega (arith, counts.keys)) fits.keys,
       number_again 4 d.max_rows rest counts.rows,
     ) refl
 
-counts_of : (d : Definition) → IsDefinition d → Counts d
+pub counts_of : (d : Definition) → IsDefinition d → Counts d
 counts_of d is =
     let columns = (and_parts (nat_le 1 (length d.columns)) (nat_le (length d.columns) 32) (and_parts (nat_le 1 (length d.columns) && nat_le (length d.columns) 32) (distinct (λ a b. same_name a.name b.name) d.columns) is.columns).0).1 in
     let distinct_keys = (and_parts (nat_le 1 (length d.keys) && nat_le (length d.keys) 8 && distinct (λ a b. same_name a.name b.name) d.keys) (list_all (is_key d.columns) d.keys) is.keys).0 in
     let keys = (and_parts (nat_le 1 (length d.keys)) (nat_le (length d.keys) 8) (and_parts (nat_le 1 (length d.keys) && nat_le (length d.keys) 8) (distinct (λ a b. same_name a.name b.name) d.keys) distinct_keys).0).1 in
     let rows = (and_parts (nat_le 1 d.max_rows) (nat_le d.max_rows 16777216) is.rows).1 in
-    record { columns = omega (arith, leb-true _ _ columns); keys = omega (arith, leb-true _ _ keys); rows = omega (arith, leb-true _ _ rows) }
+    record { columns = leb-true _ _ columns; keys = leb-true _ _ keys; rows = omega (arith, leb-true _ _ rows) }
 
 type_fits : (t : ColumnType) → is_type t ≡ true → TypeFits t
 type_fits Int e = tt
@@ -219,3 +220,62 @@ definitions_found bytes (Err why) fits e = tt
 pub definitions_only : {E : Type 0} (bytes : List ℕ) (d : Definition) (r : Result (Option Definition) E) → IsDefinition d → HasNames d → bytes ≡ definition_bytes d → IfOk r (λ d. d ≡ read_definition bytes) → IfOk r (λ read. read ≡ Some d)
 definitions_only bytes d (Ok r) is names same e = e ∙ ap read_definition same ∙ definition_again d is names
 definitions_only bytes d (Err why) is names same e = tt
+
+-- ---- lengths
+
+-- a name takes at most 65 bytes
+name_short : (name : List ℕ) → IsTrue (is_word name) → length (name_bytes name) ≤ 65
+unfolding name_bytes
+name_short name word = omega (arith, length-append (number 1 (length name)) name, length-number 1 (length name), word_length name word)
+
+type_length : (kind : ColumnType) → length (type_bytes kind) ≡ 5
+type_length Int = omega (arith, length-append (number 1 0) (number 4 0), length-number 1 0, length-number 4 0)
+type_length (Text limit) = omega (arith, length-append (number 1 1) (number 4 limit), length-number 1 1, length-number 4 limit)
+
+columns_short : (columns : List Column) → AllByRecursion (λ column. IsTrue (is_word column.name)) columns → length (flat_map column_bytes columns) ≤ 70 * length columns
+columns_short [] words = omega arith
+columns_short (c ∷ columns) words =
+    omega (arith, length-append (column_bytes c) (flat_map column_bytes columns), length-append (name_bytes c.name) (type_bytes c.kind), name_short c.name words.0, type_length c.kind, columns_short columns words.1)
+
+keys_short : (keys : List Key) → AllByRecursion (λ key. IsTrue (is_word key.name)) keys → AllByRecursion (λ key. length key.columns < 256) keys → length (flat_map key_bytes keys) ≤ 321 * length keys
+keys_short [] words few = omega arith
+keys_short (k ∷ keys) words few =
+    omega (
+      arith,
+      length-append (key_bytes k) (flat_map key_bytes keys),
+      length-append (name_bytes k.name) (number 1 (length k.columns) ++ k.columns),
+      length-append (number 1 (length k.columns)) k.columns,
+      length-number 1 (length k.columns),
+      name_short k.name words.0,
+      few.0,
+      keys_short keys words.1 few.1,
+    )
+
+-- A stored definition has at most 4814 bytes.
+pub definition_short : (d : Definition) → IsDefinition d → HasNames d → length (definition_bytes d) ≤ 4814
+definition_short d is names =
+    let columns = columns_short d.columns names.columns in
+    let keys = keys_short d.keys names.keys (keys_few d is) in
+    let counts = counts_of d is in
+    omega (
+      arith,
+      columns,
+      keys,
+      counts.columns,
+      counts.keys,
+      length-append (list_bytes column_bytes d.columns) (list_bytes key_bytes d.keys ++ number 4 d.max_rows),
+      length-append (list_bytes key_bytes d.keys) (number 4 d.max_rows),
+      length-append (number 1 (length d.columns)) (flat_map column_bytes d.columns),
+      length-append (number 1 (length d.keys)) (flat_map key_bytes d.keys),
+      length-number 1 (length d.columns),
+      length-number 1 (length d.keys),
+      length-number 4 d.max_rows,
+    )
+
+-- ---- what the call gives
+
+pub names_of : (d : Definition) → All (λ column. IsTrue (is_word column.name)) d.columns → All (λ key. IsTrue (is_word key.name)) d.keys → HasNames d
+names_of d columns keys = record {
+  columns = recursion_from_All (λ column. IsTrue (is_word column.name)) d.columns columns;
+  keys = recursion_from_All (λ key. IsTrue (is_word key.name)) d.keys keys;
+}

@@ -4,3 +4,6 @@ pub mod Rows
 pub mod Defined
 pub mod Reading
 pub mod ValueOrder
+pub mod Entry
+pub mod Kept
+pub mod Header

@@ -1,8 +1,8 @@
 -- The order of values, and the order that a key gives to rows.
-use Rattle.std.specs.Prelude.{ℕ, zero, suc, List, [], ◌∷◌, ◌++◌, filter, slice_index_or}
+use Rattle.std.specs.Prelude.{ℕ, zero, suc, Bool, true, false, ◌&&◌, List, [], ◌∷◌, ◌++◌, filter, slice_index_or}
 use Rattle.std.specs.declared.cmp.Ordering.{Ordering}
 use Rattle.std.specs.declared.cmp.Ordering.TheVariants.{Less, Equal, Greater}
-use Rattle.std.specs.Ordering.{ordering_then, nat_cmp, int_cmp, is_lt, is_gt}
+use Rattle.std.specs.Ordering.{ordering_then, nat_cmp, int_cmp, is_lt, is_eq, is_gt}
 use Rattle.std.specs.Cmp.Lexicographic.{slice_cmp}
 use Rattle.aria_value.specs.declared.value.Value.{Value}
 use Rattle.aria_value.specs.declared.value.Value.TheVariants.{Null, Int, Text}
@@ -53,3 +53,9 @@ put cmp row rows = filter (λ r. is_lt (cmp r row)) rows ++ row ∷ filter (λ r
 abbrev pub sorted : (List Value → List Value → Ordering) → List (List Value) → List (List Value)
 sorted cmp [] = []
 sorted cmp (row ∷ rows) = put cmp row (sorted cmp rows)
+
+-- the row has these values in the first of these columns
+abbrev pub has_values : List ℕ → List Value → List Value → Bool
+has_values cs [] row = true
+has_values [] (v ∷ vs) row = false
+has_values (c ∷ cs) (v ∷ vs) row = is_eq (value_cmp (value_at row c) v) && has_values cs vs row

@@ -147,7 +147,7 @@ fn room_behind_all(limit: usize, columns: &[Column], numbers: &[u8]) -> Option<u
 }
 
 // The columns of a key.
-fn columns_of(keys: &[Key], key: usize) -> &[u8]
+pub(crate) fn columns_of(keys: &[Key], key: usize) -> &[u8]
     ensures { result.now ≡ key_columns keys.now key }
 {
     match keys.get(key) {

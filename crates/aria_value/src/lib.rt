@@ -3,16 +3,24 @@
 //! A `Value` is null, a whole number or a text, a `Row` a list of values, and a `Definition` says which
 //! columns and keys a table has. `encode_row` gives the bytes of a stored row (docs/FORMATS.md, "Rows"), and
 //! `decode_row` the row of a definition that bytes spell. `encode_definition` and `decode_definition` do so
-//! for definitions (docs/FORMATS.md, "Definitions"). Bytes that spell none are `None`, whatever they are, and
-//! the only failure is want of memory.
+//! for definitions (docs/FORMATS.md, "Definitions"), and `keep_row` and `read_kept` for rows as a table of
+//! either format keeps them (docs/FORMATS.md, "Kept rows"). `entry` gives what a key has of a row, and
+//! `prefix` what the entries of rows with given values begin with (docs/FORMATS.md, "Entries of keys").
+//! `first_pages` makes the first pages of a table's files, and `read_header` reads that of its index file as
+//! a `Header` (docs/FORMATS.md, "The header of an index file"). Bytes and pages that spell none are `None`,
+//! whatever they are, and the only failure is want of memory.
 //!
 //! `specs/Order.antt` has the order of values and the order that a key gives to rows, `specs/Defined.antt`
 //! which definitions there are, `specs/Rows.antt` which rows a definition has, `specs/Stored.antt` how they are
-//! stored, and `specs/Reading.antt` how they are read.
+//! stored, `specs/Reading.antt` how they are read, `specs/Kept.antt` how tables keep rows, `specs/Entry.antt`
+//! the entries of keys, and `specs/Header.antt` the first pages.
 #![tactic(auto)]
 
 mod defined;
 mod definition;
+mod header;
+mod kept;
+mod key_entry;
 mod row;
 mod row_of;
 mod stored;
@@ -23,6 +31,9 @@ pub use definition::{
     Column, ColumnType, Definition, Key, MAX_COLUMNS, MAX_ENTRY_BYTES, MAX_KEYS, MAX_ROWS,
     MAX_TEXT_BYTES,
 };
+pub use header::{Header, first_pages, read_header};
+pub use kept::{keep_row, read_kept};
+pub use key_entry::{entry, prefix};
 pub use row::{decode_row, encode_row};
 pub use stored::{decode_definition, encode_definition};
 pub use value::{MAX_ROW_BYTES, Row, Value};

@@ -1,10 +1,11 @@
 //! Definitions as they are stored (docs/FORMATS.md, "Definitions").
 
-ghost use Rattle.std.specs.Prelude.{◌≡◌, ◌<◌, ◌++◌, length, All, OnOk, IfOk, IfSome};
+ghost use Rattle.std.specs.Prelude.{◌≡◌, ◌≤◌, ◌<◌, ◌++◌, length, All, OnOk, IfOk, IfSome, IsTrue};
 ghost use Rattle.std.specs.List.{flat_map};
 ghost use Rattle.aria_page.specs.Field.{Gives};
 ghost use Rattle.aria_page.specs.Number.{number};
 ghost use Rattle.aria_page.specs.Text.{name_bytes};
+ghost use Rattle.aria_page.specs.Word.{is_word};
 ghost use Rattle.aria_value.specs.declared.definition.Definition.{Definition as AnyDefinition};
 ghost use Rattle.aria_value.specs.Stored.{type_bytes, column_bytes, key_bytes, list_bytes, definition_bytes};
 ghost use Rattle.aria_value.specs.Defined.{IsDefinition, HasNames};
@@ -28,7 +29,8 @@ fn push_counted(out: &mut Bytes, bytes: &[u8]) -> Result<(), AllocError>
 
 #[tactic(auto, unfolding(aria_page::specs::Text::name_bytes))]
 fn push_name(out: &mut Bytes, name: &Name) -> Result<(), AllocError>
-    ensures { OnOk result (out.new ≡ out.old ++ name_bytes name.now) }
+    ensures spelled { OnOk result (out.new ≡ out.old ++ name_bytes name.now) }
+    ensures word { IsTrue (is_word name.now) }
 {
     push_counted(out, name.as_slice())
 }
@@ -47,14 +49,16 @@ fn push_type(out: &mut Bytes, kind: ColumnType) -> Result<(), AllocError>
 }
 
 fn push_column(out: &mut Bytes, column: &Column) -> Result<(), AllocError>
-    ensures { OnOk result (out.new ≡ out.old ++ column_bytes column.now) }
+    ensures spelled { OnOk result (out.new ≡ out.old ++ column_bytes column.now) }
+    ensures word { IsTrue (is_word column.now.name) }
 {
     push_name(out, &column.name)?;
     push_type(out, column.kind)
 }
 
 fn push_columns(out: &mut Bytes, columns: &[Column]) -> Result<(), AllocError>
-    ensures { OnOk result (out.new ≡ out.old ++ flat_map column_bytes columns.now) }
+    ensures spelled { OnOk result (out.new ≡ out.old ++ flat_map column_bytes columns.now) }
+    ensures words { OnOk result (All (λ column. IsTrue (is_word column.name)) columns.now) }
 {
     for column in columns {
         push_column(out, column)?;
@@ -64,7 +68,8 @@ fn push_columns(out: &mut Bytes, columns: &[Column]) -> Result<(), AllocError>
 
 fn push_key(out: &mut Bytes, key: &Key) -> Result<(), AllocError>
     requires { length key.now.columns < 256 }
-    ensures { OnOk result (out.new ≡ out.old ++ key_bytes key.now) }
+    ensures spelled { OnOk result (out.new ≡ out.old ++ key_bytes key.now) }
+    ensures word { IsTrue (is_word key.now.name) }
 {
     push_name(out, &key.name)?;
     push_counted(out, key.columns.as_slice())
@@ -72,7 +77,8 @@ fn push_key(out: &mut Bytes, key: &Key) -> Result<(), AllocError>
 
 fn push_keys(out: &mut Bytes, keys: &[Key]) -> Result<(), AllocError>
     requires { All (λ key. length key.columns < 256) keys.now }
-    ensures { OnOk result (out.new ≡ out.old ++ flat_map key_bytes keys.now) }
+    ensures spelled { OnOk result (out.new ≡ out.old ++ flat_map key_bytes keys.now) }
+    ensures words { OnOk result (All (λ key. IsTrue (is_word key.name)) keys.now) }
 {
     for key in keys {
         push_key(out, key)?;
@@ -84,7 +90,8 @@ fn push_keys(out: &mut Bytes, keys: &[Key]) -> Result<(), AllocError>
 #[tactic(auto, using(crate::proofs::StoredDefinitions::counted_items))]
 fn push_all_columns(out: &mut Bytes, columns: &[Column]) -> Result<(), AllocError>
     requires { length columns.now < 256 }
-    ensures { OnOk result (out.new ≡ out.old ++ list_bytes column_bytes columns.now) }
+    ensures spelled { OnOk result (out.new ≡ out.old ++ list_bytes column_bytes columns.now) }
+    ensures words { OnOk result (All (λ column. IsTrue (is_word column.name)) columns.now) }
 {
     out.push(columns.len() as u8)?;
     push_columns(out, columns)?;
@@ -96,7 +103,8 @@ fn push_all_columns(out: &mut Bytes, columns: &[Column]) -> Result<(), AllocErro
 fn push_all_keys(out: &mut Bytes, keys: &[Key]) -> Result<(), AllocError>
     requires number { length keys.now < 256 }
     requires columns { All (λ key. length key.columns < 256) keys.now }
-    ensures { OnOk result (out.new ≡ out.old ++ list_bytes key_bytes keys.now) }
+    ensures spelled { OnOk result (out.new ≡ out.old ++ list_bytes key_bytes keys.now) }
+    ensures words { OnOk result (All (λ key. IsTrue (is_word key.name)) keys.now) }
 {
     out.push(keys.len() as u8)?;
     push_keys(out, keys)?;
@@ -106,7 +114,9 @@ fn push_all_keys(out: &mut Bytes, keys: &[Key]) -> Result<(), AllocError>
 /// The bytes of a stored definition.
 pub fn encode_definition(alloc: Global, definition: &Definition) -> Result<Bytes, AllocError>
     requires { IsDefinition definition.now }
-    ensures { IfOk result (λ bytes. bytes ≡ definition_bytes definition.now) }
+    ensures spelled { IfOk result (λ bytes. bytes ≡ definition_bytes definition.now) }
+    ensures names { IfOk result (λ bytes. HasNames definition.now) }
+    ensures length { IfOk result (λ bytes. length bytes ≤ 4814) }
 {
     let mut out = List::new(alloc);
     push_all_columns(&mut out, definition.columns.as_slice())?;

@@ -1,7 +1,7 @@
 //! Stored forms, byte by byte.
 
 use super::*;
-use aria_page::{List, Name};
+use aria_page::{List, Lsn, Name, Page, checksum};
 use std::alloc::{AllocError, Global};
 
 fn column(name: &[u8], kind: ColumnType) -> Result<Column, AllocError> {
@@ -215,5 +215,183 @@ fn an_entry_has_at_most_1000_bytes(rt: HostRuntime) -> Result<(), AllocError> {
         bytes[18] = low;
         assert_eq!(rt; spells_a_definition(alloc, &bytes)?, is_good);
     }
+    Ok(())
+}
+
+fn row_of(alloc: Global, id: i64, name: Option<&[u8]>) -> Result<Row, AllocError> {
+    let mut row = List::new(alloc);
+    row.push(Value::Int(id))?;
+    match name {
+        None => row.push(Value::Null)?,
+        Some(name) => row.push(Value::Text(List::from_slice(alloc, name)?))?,
+    }
+    Ok(row)
+}
+
+#[test]
+fn an_entry_has_the_parts_of_its_columns(rt: HostRuntime) -> Result<(), AllocError> {
+    let alloc = rt.alloc();
+    let table = table(alloc, 20)?;
+    let first = row_of(alloc, 1, Some(b"a"))?;
+    let second = row_of(alloc, 2, None)?;
+    let low = row_of(alloc, -1, Some(b"\0b"))?;
+    assert_eq!(rt;
+        entry(alloc, &table, 0, &first)?.as_slice(),
+        b"\x01\x80\0\0\0\0\0\0\x01".as_slice()
+    );
+    assert_eq!(rt;
+        entry(alloc, &table, 1, &first)?.as_slice(),
+        b"\x01a\0\0\x01\x80\0\0\0\0\0\0\x01".as_slice()
+    );
+    assert_eq!(rt;
+        entry(alloc, &table, 1, &second)?.as_slice(),
+        b"\0\x01\x80\0\0\0\0\0\0\x02".as_slice()
+    );
+    assert_eq!(rt;
+        entry(alloc, &table, 1, &low)?.as_slice(),
+        b"\x01\0\xFFb\0\0\x01\x7F\xFF\xFF\xFF\xFF\xFF\xFF\xFF".as_slice()
+    );
+    Ok(())
+}
+
+#[test]
+fn a_prefix_has_the_parts_of_its_values(rt: HostRuntime) -> Result<(), AllocError> {
+    let alloc = rt.alloc();
+    let table = table(alloc, 20)?;
+    let mut values = List::new(alloc);
+    assert_eq!(rt;
+        prefix(alloc, &table, 1, values.as_slice())?.as_slice(),
+        b"".as_slice()
+    );
+    values.push(Value::Text(List::from_slice(alloc, b"a\0")?))?;
+    assert_eq!(rt;
+        prefix(alloc, &table, 1, values.as_slice())?.as_slice(),
+        b"\x01a\0\xFF\0\0".as_slice()
+    );
+    Ok(())
+}
+
+#[test]
+fn a_row_is_kept_with_its_checksum_in_format_2(rt: HostRuntime) -> Result<(), AllocError> {
+    let alloc = rt.alloc();
+    let table = table(alloc, 20)?;
+    let mut row = List::new(alloc);
+    row.push(Value::Int(1))?;
+    row.push(Value::Text(List::from_slice(alloc, b"a")?))?;
+    let stored = encode_row(alloc, &row)?;
+    let first = keep_row(alloc, 1, &row)?;
+    let second = keep_row(alloc, 2, &row)?;
+    assert_eq!(rt; first.as_slice(), stored.as_slice());
+    assert_eq!(rt; second.len(), 19);
+    let sum = checksum(stored.as_slice()).to_be_bytes();
+    assert!(rt; second.as_slice().starts_with(stored.as_slice()));
+    assert!(rt; second.as_slice().ends_with(&sum));
+    assert!(rt; read_kept(alloc, &table, 1, first.as_slice())?.is_some());
+    assert!(rt; read_kept(alloc, &table, 2, second.as_slice())?.is_some());
+    assert!(rt; read_kept(alloc, &table, 1, second.as_slice())?.is_none());
+    assert!(rt; read_kept(alloc, &table, 2, first.as_slice())?.is_none());
+    assert!(rt; read_kept(alloc, &table, 2, b"abc")?.is_none());
+    Ok(())
+}
+
+// The page with another byte in its body, and a checksum that fits.
+fn with_body_byte(page: &Page, at: usize, byte: u8) -> Page {
+    let mut page = *page;
+    if at < 8181 {
+        page.put(11 + at, &[byte]);
+        page.sum();
+    }
+    page
+}
+
+const CREATED: Lsn = Lsn {
+    file: 1,
+    offset: 16,
+};
+
+fn spells_a_header(alloc: Global, page: &Page) -> Result<bool, AllocError> {
+    Ok(read_header(alloc, page)?.is_some())
+}
+
+fn is_new(header: &Header, plain: bool, format: u8) -> bool {
+    header.plain == plain
+        && !header.marked
+        && header.created == CREATED
+        && header.rows == 0
+        && header.free == 0
+        && header.roots == [0; 8]
+        && header.end == 0
+        && header.definition.columns.len() == 2
+        && header.format == format
+}
+
+#[test]
+fn the_first_pages_of_a_table(rt: HostRuntime) -> Result<(), AllocError> {
+    let alloc = rt.alloc();
+    let Some(table) = decode_definition(alloc, &STORED)? else {
+        return Err(AllocError);
+    };
+    let (index, data) = first_pages(alloc, &table, false, CREATED, 1)?;
+    assert!(rt; index.is_sound() && data.is_sound());
+    assert!(rt; index.lsn() == CREATED && data.lsn() == CREATED);
+    assert!(rt;
+        index
+            .body()
+            .starts_with(b"\x01ARIAOWN1\x01\0\0\0\0\x01\0\0\0\x10")
+    );
+    assert!(rt; index.body()[69..].starts_with(b"\0\x22\x02\x02id"));
+    assert!(rt; data.body().starts_with(b"\x02\0\0"));
+    match read_header(alloc, &index)? {
+        None => assert!(rt; false),
+        Some(header) => assert!(rt; is_new(&header, false, 1) && header.deleted == 0),
+    }
+    let (index, data) = first_pages(alloc, &table, true, CREATED, 2)?;
+    assert!(rt; data.body().starts_with(b"\x09\0\0"));
+    match read_header(alloc, &index)? {
+        None => assert!(rt; false),
+        Some(header) => assert!(rt; is_new(&header, true, 2) && header.deleted == (1 << 40) - 1),
+    }
+    Ok(())
+}
+
+#[test]
+fn pages_that_spell_a_header_and_others(rt: HostRuntime) -> Result<(), AllocError> {
+    let alloc = rt.alloc();
+    let Some(table) = decode_definition(alloc, &STORED)? else {
+        return Err(AllocError);
+    };
+    let (index, data) = first_pages(alloc, &table, false, CREATED, 1)?;
+    for (at, byte, is_good) in [
+        // the kind, the magic, the format
+        (0, 2, false),
+        (8, b'2', false),
+        (9, 2, true),
+        (9, 3, false),
+        // a plain table, and a mark in a transactional one
+        (10, 1, true),
+        (10, 2, false),
+        (11, 1, false),
+        // a file that made the table, rows, and a root
+        (14, 9, true),
+        (22, 9, true),
+        (35, 9, true),
+        // the length of the definition, and a byte of it
+        (70, 33, false),
+        (69, 255, false),
+        (72, 1, false),
+        // what comes behind it isn't looked at
+        (105, 9, true),
+    ] {
+        let page = with_body_byte(&index, at, byte);
+        assert_eq!(rt; spells_a_header(alloc, &page)?, is_good);
+    }
+    let plain = with_body_byte(&index, 10, 1);
+    assert!(rt; spells_a_header(alloc, &with_body_byte(&plain, 11, 1))?);
+    assert!(rt; !spells_a_header(alloc, &data)?);
+    assert!(rt; !spells_a_header(alloc, &Page::zero())?);
+    // a checksum that doesn't fit
+    let mut torn = index;
+    torn.put(200, &[1]);
+    assert!(rt; !spells_a_header(alloc, &torn)?);
     Ok(())
 }
