@@ -1,0 +1,23 @@
+//! Groups of the log: what they are made of, and how they are stored.
+//!
+//! A `Group` is what the log has as one step: a list of `Record`s. Either edits of pages and one record that
+//! ends them, or one record alone. `encode_group` gives its bytes, and `decode_group` the group that stands in
+//! front of bytes, with its length (docs/FORMATS.md, "Groups"). No group's bytes begin another's. Bytes in
+//! front of which no group stands are `None`, whatever they are, and the only failure is want of memory.
+//!
+//! `specs/Spelled.antt` says how groups are spelled, `specs/Groups.antt` which groups there are, and
+//! `specs/Reading.antt` how they are read.
+#![tactic(auto)]
+
+mod edits;
+mod entries;
+mod fields;
+mod group;
+mod record;
+mod writing;
+
+pub use group::{decode_group, encode_group};
+pub use record::{Dirty, Group, Record};
+
+#[cfg(test)]
+mod tests;
