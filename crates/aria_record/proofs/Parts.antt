@@ -1,6 +1,6 @@
 -- The fields of entries are read as they were spelled.
-use Rattle.std.proofs.Common.{◌≡◌, ℕ, zero, suc, ◌+◌, ◌^◌, ◌<◌, ◌≤◌, ◌⊎◌, Bool, true, false, not, ◌&&◌, cond, eqb, ltb, List, [], ◌∷◌, ◌++◌, length, Option, Some, None, refl, sym, ap, subst, ◌∙◌, append_assoc, arith, inl, inr, lit<, nat_le}
-use Rattle.std.specs.Prelude.{IsTrue, ◌==◌}
+use Rattle.std.proofs.Common.{◌≡◌, ℕ, zero, suc, ◌+◌, ◌^◌, ◌<◌, ◌≤◌, ◌⊎◌, Bool, true, false, not, ◌&&◌, cond, eqb, ltb, List, [], ◌∷◌, ◌++◌, length, Option, Some, None, refl, sym, ap, subst, ◌∙◌, arith, inl, inr, lit<, nat_le}
+use Rattle.std.specs.Prelude.{IsTrue}
 use Rattle.std.specs.List.{flat_map, AllByRecursion}
 use Rattle.std.proofs.lemmas.Bool.{eqb-true, eqb-false, eq-eqb, ne_eqb, ltb-true, lt-ltb, leb-true, le-leb, and_parts, and_from, cases_Bool}
 use Rattle.std.proofs.lemmas.Option.{same_Some, cond_some}
@@ -25,7 +25,7 @@ use Rattle.aria_value.proofs.Items.{Reads}
 use Rattle.aria_record.specs.declared.record.Dirty.{Dirty}
 use Rattle.aria_record.specs.Spelled.{part_bytes, place_bytes, tail_bytes, places_bytes, edit_bytes, dirty_bytes, table_number}
 use Rattle.aria_record.specs.Groups.{PlaceFits, TailFits, PlacesFit, DirtyFits}
-use Rattle.aria_record.specs.Reading.{read_both, read_as, part_of, read_part, page_of, read_page, place_of, read_place, tail_of, read_tail, blobs_of, read_blobs, places_of, read_places, is_within, fitting, read_set, read_shift, read_body_edit, read_edit, some_edits, read_edits, read_row_head, key_of, read_key, read_key_head, dirty_of, read_dirty, read_dirties, table_of, read_table, read_table_head, read_redo_parts, read_clr_parts, read_checkpoint_parts}
+use Rattle.aria_record.specs.Reading.{read_both, part_of, read_part, page_of, read_page, place_of, read_place, tail_of, read_tail, blobs_of, read_blobs, places_of, read_places, is_within, fitting, read_set, read_shift, read_body_edit, read_edit, some_edits, read_edits, read_row_head, key_of, read_key, read_key_head, dirty_of, read_dirty, read_dirties, table_of, read_table, read_table_head, read_redo_parts, read_clr_parts, read_checkpoint_parts}
 use Rattle.aria_record.proofs.Readers.{number_read, name_read, lsn_read, counted_read, both_read, as_read, list_read, dirties_read}
 
 -- ---- places

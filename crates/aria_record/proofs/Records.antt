@@ -1,5 +1,5 @@
 -- Entries and groups are read as they were spelled.
-use Rattle.std.proofs.Common.{◌≡◌, ℕ, ◌+◌, ◌^◌, ◌<◌, ◌≤◌, Bool, true, false, ◌&&◌, cond, eqb, List, [], ◌∷◌, ◌++◌, length, take, Option, Some, None, Result, Ok, Err, refl, sym, ap, subst, ◌∙◌, append_assoc, arith, lit<}
+use Rattle.std.proofs.Common.{◌≡◌, ℕ, ◌^◌, ◌<◌, ◌≤◌, Bool, true, false, cond, eqb, List, [], ◌∷◌, ◌++◌, length, take, Option, Some, None, Result, Ok, Err, refl, sym, ap, subst, ◌∙◌, append_assoc, arith, lit<}
 use Rattle.std.specs.Prelude.{IsTrue, IfSome, IfOk, is_some}
 use Rattle.std.specs.List.{AllByRecursion}
 use Rattle.std.proofs.lemmas.Bool.{eqb-true}
@@ -18,7 +18,7 @@ use Rattle.aria_record.specs.declared.record.Record.{Record}
 use Rattle.aria_record.specs.declared.record.Record.TheVariants.{Redo, UndoRowInsert, UndoRowDelete, UndoKeyInsert, UndoKeyDelete, ClrEnd, Commit, Checkpoint, CreateTable, DropTable, RepairTable}
 use Rattle.aria_record.specs.Spelled.{redo_number, kind_number, body_bytes, record_bytes, content_bytes, group_bytes}
 use Rattle.aria_record.specs.Groups.{is_group, BodyFits, RecordFits, IsGroup, IsInFront}
-use Rattle.aria_record.specs.Reading.{read_whole, kind_in, redo_kinds, redo_kind, read_redo_parts, read_redo, read_row_head, read_row_insert, read_row_delete, read_key_head, read_key_insert, read_key_delete, read_clr_parts, read_clr_end, read_commit, read_checkpoint_parts, read_checkpoint, read_table_head, read_create, read_drop, read_repair, read_in, others, read_other, read_known, read_body, read_record, read_content, read_group, Decodes}
+use Rattle.aria_record.specs.Reading.{read_whole, kind_in, redo_kinds, redo_kind, read_redo_parts, read_redo, read_row_head, read_row_insert, read_row_delete, read_key_head, read_key_insert, read_key_delete, read_clr_parts, read_clr_end, read_commit, read_checkpoint_parts, read_checkpoint, read_table_head, read_create, read_drop, read_repair, read_in, others, read_known, read_body, read_record, read_content, read_group, Decodes}
 use Rattle.aria_record.proofs.Readers.{name_read, whole_takes, whole_again, list_read}
 use Rattle.aria_record.proofs.Parts.{row_head_read, key_head_read, table_head_read, redo_parts_read, clr_parts_read, checkpoint_parts_read}
 

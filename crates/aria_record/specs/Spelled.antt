@@ -81,11 +81,11 @@ kind_number (RepairTable table) = 19
 abbrev pub table_number : Bool → ℕ → ℕ
 table_number plain format = (if plain then 1 else 0) + 2 * (format - 1)
 
--- what stands before the stored row or behind it nothing
+-- the table, the undo record before this one, and the places of a row
 abbrev pub row_head : List ℕ → Lsn → Places → List ℕ
 row_head table prev places = name_bytes table ++ (lsn_bytes prev ++ places_bytes places)
 
--- what stands before the entry of a key
+-- the table, the undo record before this one, the key and the target
 abbrev pub key_head : List ℕ → Lsn → ℕ → ℕ → List ℕ
 key_head table prev key target = name_bytes table ++ (lsn_bytes prev ++ (number 1 key ++ number 5 target))
 
