@@ -1,4 +1,4 @@
--- The orders of values and of rows are total orders, and stored numbers are in the order of their bytes.
+-- The order of rows is total, and stored numbers are in the order of their bytes.
 use Rattle.std.proofs.Common.{◌≡◌, ℕ, zero, suc, ◌+◌, ◌*◌, ◌/◌, ◌%◌, ◌^◌, ◌<◌, ◌≤◌, List, [], ◌∷◌, ◌++◌, length, refl, sym, ap, ◌∙◌, arith, inl, inr}
 use Rattle.std.proofs.Math.Arith.{mod-mul}
 use Rattle.std.proofs.Math.Nat.{add-mul, div-one, mod-eq_of_lt, mod-lt, mul-le-mul_right, one-le-pow, pow-succ'}
@@ -14,7 +14,8 @@ use Rattle.aria_page.specs.Number.{number}
 use Rattle.aria_value.specs.declared.value.Value.{Value}
 use Rattle.aria_value.specs.declared.value.Value.TheVariants.{Null, Int, Text}
 use Rattle.aria_value.specs.declared.definition.Definition.{Definition}
-use Rattle.aria_value.specs.Order.{value_cmp, value_at, columns_cmp, order_columns, key_cmp}
+use Rattle.aria_value.specs.ValueOrder.{value_total}
+use Rattle.aria_value.specs.Order.{value_at, columns_cmp, order_columns, key_cmp}
 
 -- ---- one comparison after another
 
@@ -23,63 +24,11 @@ then_assoc Less b c = refl
 then_assoc Equal b c = refl
 then_assoc Greater b c = refl
 
--- ---- values
-
-value_antisymm : (x y : Value) → value_cmp x y ≡ ordering_reverse (value_cmp y x)
-value_antisymm Null Null = refl
-value_antisymm Null (Int b) = refl
-value_antisymm Null (Text b) = refl
-value_antisymm (Int a) Null = refl
-value_antisymm (Int a) (Int b) = int_cmp_total.antisymm a b
-value_antisymm (Int a) (Text b) = refl
-value_antisymm (Text a) Null = refl
-value_antisymm (Text a) (Int b) = refl
-value_antisymm (Text a) (Text b) = nat_list_cmp_total.antisymm a b
-
-value_trans : (x y z : Value) → value_cmp x y ≡ Less → value_cmp y z ≡ Less → value_cmp x z ≡ Less
-value_trans Null Null z p q = absurd cc
-value_trans Null (Int b) Null p q = absurd cc
-value_trans Null (Int b) (Int c) p q = refl
-value_trans Null (Int b) (Text c) p q = refl
-value_trans Null (Text b) Null p q = absurd cc
-value_trans Null (Text b) (Int c) p q = refl
-value_trans Null (Text b) (Text c) p q = refl
-value_trans (Int a) Null z p q = absurd cc
-value_trans (Int a) (Int b) Null p q = absurd cc
-value_trans (Int a) (Int b) (Int c) p q = int_cmp_total.trans a b c p q
-value_trans (Int a) (Int b) (Text c) p q = refl
-value_trans (Int a) (Text b) Null p q = absurd cc
-value_trans (Int a) (Text b) (Int c) p q = absurd cc
-value_trans (Int a) (Text b) (Text c) p q = refl
-value_trans (Text a) Null z p q = absurd cc
-value_trans (Text a) (Int b) z p q = absurd cc
-value_trans (Text a) (Text b) Null p q = absurd cc
-value_trans (Text a) (Text b) (Int c) p q = absurd cc
-value_trans (Text a) (Text b) (Text c) p q = nat_list_cmp_total.trans a b c p q
-
-value_congr : (x y z : Value) → value_cmp x y ≡ Equal → value_cmp x z ≡ value_cmp y z
-value_congr Null Null z e = refl
-value_congr Null (Int b) z e = absurd cc
-value_congr Null (Text b) z e = absurd cc
-value_congr (Int a) Null z e = absurd cc
-value_congr (Int a) (Int b) Null e = refl
-value_congr (Int a) (Int b) (Int c) e = int_cmp_total.congr a b c e
-value_congr (Int a) (Int b) (Text c) e = refl
-value_congr (Int a) (Text b) z e = absurd cc
-value_congr (Text a) Null z e = absurd cc
-value_congr (Text a) (Int b) z e = absurd cc
-value_congr (Text a) (Text b) Null e = refl
-value_congr (Text a) (Text b) (Int c) e = refl
-value_congr (Text a) (Text b) (Text c) e = nat_list_cmp_total.congr a b c e
-
-pub value_cmp_total : IsTotalOrder value_cmp
-value_cmp_total = record { antisymm = value_antisymm; trans = value_trans; congr = value_congr }
-
 -- ---- rows
 
 pub columns_cmp_total : (columns : List ℕ) → IsTotalOrder (columns_cmp columns)
 columns_cmp_total [] = record { antisymm = λ x y. refl; trans = λ x y z p q. absurd cc; congr = λ x y z e. refl }
-columns_cmp_total (c ∷ columns) = then_total (on_total (λ row. value_at row c) value_cmp_total) (columns_cmp_total columns)
+columns_cmp_total (c ∷ columns) = then_total (on_total (λ row. value_at row c) value_total) (columns_cmp_total columns)
 
 pub key_cmp_total : (d : Definition) (n : ℕ) → IsTotalOrder (key_cmp d n)
 key_cmp_total d n = columns_cmp_total (order_columns d n)
