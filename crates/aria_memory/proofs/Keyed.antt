@@ -180,7 +180,7 @@ fresh_key d es k row keyed at fits =
     not_found (lookup (is_at (values_cmp k)) es)
     (sym (twice_by_key d es k row keyed at)
     ∙ second_passes (bad_value (bad_column (key_columns d.keys 0) 0 [] d.columns row)) (refused_where (nat_lt 65536 (row_length row)) RowTooLong)
-      (list_any (λ other. is_eq (key_cmp d 0 other row)) (values_of es)) (Duplicate (first_key_name d.keys)) (refused_where (nat_le d.max_rows (length (values_of es))) RowsFull) fits)
+    (list_any (λ other. is_eq (key_cmp d 0 other row)) (values_of es)) (Duplicate (first_key_name d.keys)) (refused_where (nat_le d.max_rows (length (values_of es))) RowsFull) fits)
 
 -- rows put one after another, one row on
 pub put_all_next : (d : Definition) (es : List (List Value × List Value)) (k row : List Value) (more all : List (List Value)) (puts : Puts) → are_keyed d es ≡ true

@@ -169,9 +169,10 @@ among d p [] keyed rises = tt
 among d p (e ∷ es) keyed rises =
     let parts = and_parts _ _ keyed in
     let above = sorted_head values_cmp e.0 (keys_of es) rises in
-    let passed = filter p (values_of es) in
-    (here_step (stands_at d e.0) e.1 passed (p e.1) (stands_is d e.0 e.0 e.1 parts.0 ∙ tied_key e.0) (none_stands d p e.0 es parts.1 above),
-    above_step d p e passed es parts.0 above (among d p es parts.1 (sorted_tail values_cmp e.0 (keys_of es) rises)))
+    let passed = filter p (values_of es) in (
+      here_step (stands_at d e.0) e.1 passed (p e.1) (stands_is d e.0 e.0 e.1 parts.0 ∙ tied_key e.0) (none_stands d p e.0 es parts.1 above),
+      above_step d p e passed es parts.0 above (among d p es parts.1 (sorted_tail values_cmp e.0 (keys_of es) rises)),
+    )
 
 filter_same : {X : Type 0} (g h : X → Bool) (xs : List X) → AllByRecursion (λ x. g x ≡ h x) xs → filter g xs ≡ filter h xs
 filter_same g h [] same = refl

@@ -8,7 +8,7 @@ ghost use Rattle.aria_value.specs.Defined.{is_definition};
 ghost use Rattle.aria_value.specs.Order.{value_cmp, value_at, columns_cmp, key_columns, order_columns, sorted};
 ghost use Rattle.aria_model.specs.Step.{key_number, may_seek, bad_sought, has_values, concerned};
 ghost use Rattle.aria_memory.specs.Keyed.{values_cmp, values_in, are_keyed, are_columns_of};
-ghost use Rattle.aria_memory.specs.Seeking.{seek_refusal, concerned_keys};
+ghost use Rattle.aria_memory.specs.Seeking.{seek_refusal};
 
 use crate::row_key::RowKey;
 use crate::rows::{first_key_columns, key_of};
@@ -86,7 +86,11 @@ pub(crate) fn seek(definition: &Definition, key: Name, values: &[Value]) -> Resu
     match key_number(keys, &key) {
         None => Err(Refusal::NoKey { name: key }),
         Some(number) => {
-            match bad_sought(definition.columns.as_slice(), key_columns(keys, number), values) {
+            match bad_sought(
+                definition.columns.as_slice(),
+                key_columns(keys, number),
+                values,
+            ) {
                 Some(column) => Err(Refusal::BadValue { column }),
                 None => Ok(number),
             }

@@ -24,8 +24,9 @@ pub struct Table {
 }
 
 impl Table {
-    ghost use Rattle.std.specs.Prelude.{◌≡◌, [], false};
+    ghost use Rattle.std.specs.Prelude.{◌≡◌, [], false, IfErr};
     ghost use Rattle.std.specs.Option.{option_map};
+    ghost use Rattle.std.specs.BTreeMap.{IsOrdered, values};
     ghost use Rattle.aria_value.specs.Defined.{IsDefinition};
     ghost use Rattle.aria_model.specs.declared.refusal.Exception.TheVariants.{Spent};
     ghost use Rattle.aria_model.specs.World.{Sound};
@@ -66,6 +67,25 @@ impl Table {
         match insert_all(alloc, &self.definition, &mut self.rows, rows.into_vec())? {
             Some(why) => Ok(Reply::No(why)),
             None => Ok(Reply::Count(count)),
+        }
+    }
+
+    pub(crate) fn select(
+        &self,
+        alloc: Global,
+        key: Name,
+        sought: &[Value],
+        text: &mut Bytes,
+    ) -> Result<Reply, AllocError>
+        ensures { IfOk result (λ reply. SelectsFrom (table_of self.now) key sought.now text.old text.new reply) }
+    {
+        match seek(&self.definition, key, sought) {
+            Err(why) => Ok(Reply::No(why)),
+            Ok(number) => {
+                let found = find(alloc, &self.definition, &self.rows, number, sought)?;
+                push_rows(found.as_slice(), text)?;
+                Ok(Reply::Count(found.len() as u64))
+            }
         }
     }
 
@@ -149,25 +169,6 @@ impl Table {
         match update_all(alloc, &self.definition, &mut self.rows, changes)? {
             Some(why) => Ok(Reply::No(why)),
             None => Ok(Reply::Count(count as u64)),
-        }
-    }
-
-    pub(crate) fn select(
-        &self,
-        alloc: Global,
-        key: Name,
-        sought: &[Value],
-        text: &mut Bytes,
-    ) -> Result<Reply, AllocError>
-        ensures { IfOk result (λ reply. SelectsFrom (table_of self.now) key sought.now text.old text.new reply) }
-    {
-        match seek(&self.definition, key, sought) {
-            Err(why) => Ok(Reply::No(why)),
-            Ok(number) => {
-                let found = find(alloc, &self.definition, &self.rows, number, sought)?;
-                push_rows(found.as_slice(), text)?;
-                Ok(Reply::Count(found.len() as u64))
-            }
         }
     }
 }

@@ -79,10 +79,10 @@ returns-in-Delete-clause-performs c = rw c.in-Delete.is (
     let spent = option_map Spent c.args.spent in
     let name = c.in-Delete.name in
     let key = c.in-Delete.key in
-    let values = c.in-Delete.values in
-    IfOk-weaker c.delete.result (Leaves (delete old name key values spent) new) _
-    (λ reply leaves. tells_none old new (Delete name key values) spent c.args.text.now reply (delete-rows old name key values spent) leaves)
-    (subst (λ (given : List Value). IfOk c.delete.result (Leaves (delete old name key given spent) new)) c.as_slice.ensures c.delete.ensures.deletes))
+    let sought = c.in-Delete.values in
+    IfOk-weaker c.delete.result (Leaves (delete old name key sought spent) new) _
+    (λ reply leaves. tells_none old new (Delete name key sought) spent c.args.text.now reply (delete-rows old name key sought spent) leaves)
+    (subst (λ (vs : List Value). IfOk c.delete.result (Leaves (delete old name key vs spent) new)) c.as_slice.ensures c.delete.ensures.deletes))
 
 pub returns-in-Delete-clause-kept : goal.returns-in-Delete-clause-kept
 returns-in-Delete-clause-kept c = rw c.in-Delete.is (
@@ -91,14 +91,10 @@ returns-in-Delete-clause-kept c = rw c.in-Delete.is (
     let spent = option_map Spent c.args.spent in
     let name = c.in-Delete.name in
     let key = c.in-Delete.key in
-    let values = c.in-Delete.values in
-    IfOk-weaker c.delete.result (Leaves (delete old name key values spent) new) _
-    (λ reply leaves. keeps_all old new (Delete name key values) spent reply (delete_kept old name key values spent) leaves)
-    (subst (λ (given : List Value). IfOk c.delete.result (Leaves (delete old name key given spent) new)) c.as_slice.ensures c.delete.ensures.deletes))
-
-pub returns-in-Select-clause-performs : goal.returns-in-Select-clause-performs
-returns-in-Select-clause-performs c = rw c.in-Select.is (
-    IfOk-weaker c.select.result _ _ (λ reply performs. performs (option_map Spent c.args.spent)) (rw c.as_slice-in-Select.ensures at c.select.ensures))
+    let sought = c.in-Delete.values in
+    IfOk-weaker c.delete.result (Leaves (delete old name key sought spent) new) _
+    (λ reply leaves. keeps_all old new (Delete name key sought) spent reply (delete_kept old name key sought spent) leaves)
+    (subst (λ (vs : List Value). IfOk c.delete.result (Leaves (delete old name key vs spent) new)) c.as_slice.ensures c.delete.ensures.deletes))
 
 pub returns-in-Update-clause-performs : goal.returns-in-Update-clause-performs
 returns-in-Update-clause-performs c = rw c.in-Update.is (
@@ -125,6 +121,10 @@ returns-in-Update-clause-kept c = rw c.in-Update.is (
     IfOk-weaker c.update.result (Leaves (update old name key values settings spent) new) _
     (λ reply leaves. keeps_all old new (Update name key values settings) spent reply (update_kept old name key values settings spent (no_plain c.args.self.now)) leaves)
     (updated old name key values c.as_slice-in-Update.result.now settings c.as_slice-in-Update-2.result.now spent new c.update.result c.as_slice-in-Update.ensures c.as_slice-in-Update-2.ensures c.update.ensures))
+
+pub returns-in-Select-clause-performs : goal.returns-in-Select-clause-performs
+returns-in-Select-clause-performs c = rw c.in-Select.is (
+    IfOk-weaker c.select.result _ _ (λ reply performs. performs (option_map Spent c.args.spent)) (rw c.as_slice-in-Select.ensures at c.select.ensures))
 
 pub returns-in-Drop : goal.returns-in-Drop
 returns-in-Drop c = rw c.in-Drop.is (
