@@ -284,22 +284,6 @@ is_error 'the reader of standard output goes away' ''
 goes_on 'the run after the reader went away' 0 '' select.aria run
 has_rows 'the run after the reader went away' 1 "$(grep -c '^row' told)"
 
-# many runs in a folder
-fresh
-goes_on 'the first run' 0 '' create.aria run
-inserts 1 2 > more.aria
-goes_on 'the second run' 0 '' more.aria run
-tells_text 'the second run' $'ok 1\nok 1\n'
-printf 'create u trans n:int keys n (n)\ninsert t (3,21)\t\r\ninsert t (2,0)\nselect u n\ninsert u (-1) (5)' > more.aria
-goes_on 'the third run' 1 '' more.aria run
-tells_text 'the third run' $'ok\nok 1\nno duplicate k\nok 0\nok 2\n'
-has_rows 'the fourth run' 1 3
-printf 'select u n\ncreate t trans id:int keys k (id)\n' > more.aria
-goes_on 'the fifth run' 1 '' more.aria run
-tells_text 'the fifth run' $'row -1\nrow 5\nok 2\nno table exists t\n'
-goes_on 'a run of nothing' 0 '' /dev/null run
-has_rows 'the last run' 1 3
-
 # changes of every kind, and the next run
 cat > changes.aria <<'E'
 create t trans id:int v:text(5) keys k (id) l (v)
@@ -323,6 +307,22 @@ goes_on 'the run after changes of every kind' 1 '' more.aria run
 tells_text 'the run after changes of every kind' $'row -3,x\'00ff\'\nrow 7,\'a\'\nok 2\nno table u\n'
 [[ $(stat -c %s "$log") -eq $((7 * 8192)) ]] ||
     fail 'changes of every kind: the log has not a page for each line that changed the tables'
+
+# many runs in a folder
+fresh
+goes_on 'the first run' 0 '' create.aria run
+inserts 1 2 > more.aria
+goes_on 'the second run' 0 '' more.aria run
+tells_text 'the second run' $'ok 1\nok 1\n'
+printf 'create u trans n:int keys n (n)\ninsert t (3,21)\t\r\ninsert t (2,0)\nselect u n\ninsert u (-1) (5)' > more.aria
+goes_on 'the third run' 1 '' more.aria run
+tells_text 'the third run' $'ok\nok 1\nno duplicate k\nok 0\nok 2\n'
+has_rows 'the fourth run' 1 3
+printf 'select u n\ncreate t trans id:int keys k (id)\n' > more.aria
+goes_on 'the fifth run' 1 '' more.aria run
+tells_text 'the fifth run' $'row -1\nrow 5\nok 2\nno table exists t\n'
+goes_on 'a run of nothing' 0 '' /dev/null run
+has_rows 'the last run' 1 3
 
 # The log as docs/FORMATS.md has it. write_log RUN..: makes it of these runs, each of one or more lines.
 write_log() {
