@@ -21,3 +21,5 @@ pub use tables::Tables;
 
 #[cfg(test)]
 mod tests;
+#[cfg(test)]
+mod tests_by_key;
