@@ -5,7 +5,7 @@ use Rattle.std.specs.List.{list_any}
 use Rattle.std.specs.List.Sorted.{IsStrictlySortedBy}
 use Rattle.std.specs.BTreeMap.{is_at, insert_entry}
 use Rattle.std.specs.Map.{keys_of, values_of, lookup, lookup_key, remove_entry}
-use Rattle.std.specs.Ordering.{is_eq, eq_by_cmp}
+use Rattle.std.specs.Ordering.{is_eq}
 use Rattle.std.specs.Cmp.{tied_itself, eq_by_cmp_equiv}
 use Rattle.std.proofs.Common.{sym, ap, ◌∙◌}
 use Rattle.std.proofs.lemmas.Map.{lookup-remove_entry}
@@ -23,7 +23,7 @@ use Rattle.aria_memory.specs.declared.change.Done.{Done}
 use Rattle.aria_memory.specs.Keyed.{values_cmp, values_in, has_key, are_keyed}
 use Rattle.aria_memory.specs.Updated.{change_of, IsSet, put_back, taken_back}
 use Rattle.aria_memory.proofs.Entries.{remove_absent, remove_inserted, removed_back, keyed_without, beside_removed}
-use Rattle.aria_memory.proofs.Keyed.{values_total, keys_order, has_key_itself, twice_by_key, are_keyed-insert, values-insert}
+use Rattle.aria_memory.proofs.Keyed.{values_total, keys_order, has_key_itself, twice_by_key, values-insert}
 
 -- ---- one row
 
@@ -141,11 +141,13 @@ goes_next d changes start change left es k keyed rises still at fits goes = λ s
     let others = remove_entry (is_at (values_cmp change.key)) es in
     let kept : are_keyed d others ≡ true = keyed_without (has_key d) (is_at (values_cmp change.key)) es keyed in
     let put_there : values_of (insert_entry values_cmp others k change.row) ≡ put (key_cmp d 0) change.row (values_of others) =
-    values-insert d others k change.row kept at still (fresh_beside d others k change.row kept at fits) in
-    (first.1, first.4,
+    values-insert d others k change.row kept at still (fresh_beside d others k change.row kept at fits) in (
+      first.1,
+      first.4,
       ap (λ rows. set_all d settings None 1 rows first.1) put_there
-      ∙ set_from_here d settings (values_of es) (values_of others) first.0 change.row first.1 went.0 (set_all d settings None 1 start olds)
-        (beside_by_key d es change.key first.0 keyed (ap (λ (c : Change). c.key) first.3) rises) (ap (λ (c : Change). c.row) first.3) fits first.2 went.2)
+          ∙ set_from_here d settings (values_of es) (values_of others) first.0 change.row first.1 went.0 (set_all d settings None 1 start olds)
+          (beside_by_key d es change.key first.0 keyed (ap (λ (c : Change). c.key) first.3) rises) (ap (λ (c : Change). c.row) first.3) fits first.2 went.2,
+    )
 
 refused_here : (d : Definition) (settings : List Setting) (here beside : List (List Value)) (old row : List Value) (more rest : List (List Value)) (puts : Puts) (why : Refusal)
     → filter (λ other. not (is_eq (key_cmp d 0 other old))) here ≡ beside → row ≡ set_row d.columns settings old → set_refusal d None 1 beside row ≡ Some why → rest ≡ old ∷ more

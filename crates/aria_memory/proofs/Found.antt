@@ -1,15 +1,14 @@
 -- The rows that have some values first in a key's columns: where they stand, and in which order.
-use Rattle.std.specs.Prelude.{◌≡◌, ℕ, zero, suc, ◌+◌, ◌<◌, ◌≤◌, Bool, true, false, not, ◌&&◌, ◌||◌, ◌==◌, cond, nat_lt, List, [], ◌∷◌, ◌++◌, length, drop, map, Option, Some, None, refl}
-use Rattle.std.specs.List.{filter, list_all, list_any, take_while, prefix_len, position_or_len, position, AllByRecursion}
+use Rattle.std.specs.Prelude.{◌≡◌, ℕ, Bool, true, false, ◌&&◌, cond, List, [], ◌∷◌, ◌++◌, map, refl}
+use Rattle.std.specs.List.{filter, list_all, take_while, AllByRecursion}
 use Rattle.std.specs.List.Sorted.{IsStrictlySortedBy}
 use Rattle.std.specs.declared.cmp.Ordering.{Ordering}
 use Rattle.std.specs.declared.cmp.Ordering.TheVariants.{Less, Equal, Greater}
 use Rattle.std.specs.Ordering.{is_eq, is_lt, is_gt, is_le, match_ordering, ordering_reverse, ordering_then}
 use Rattle.std.specs.Cmp.{IsTotalOrder, tied_itself, Equal-is}
-use Rattle.std.specs.Cmp.Lexicographic.{lists_total}
-use Rattle.std.specs.BTreeMap.{is_at, insert_entry}
-use Rattle.std.specs.Map.{keys_of, values_of, remove_entry}
-use Rattle.std.proofs.Common.{sym, ap, subst, ◌∙◌, arith, append_assoc}
+use Rattle.std.specs.BTreeMap.{insert_entry}
+use Rattle.std.specs.Map.{keys_of, values_of}
+use Rattle.std.proofs.Common.{sym, ap, subst, ◌∙◌, append_assoc}
 use Rattle.std.proofs.lemmas.List.{append-nil, map-append}
 use Rattle.std.proofs.lemmas.Bool.{and_parts, and_from}
 use Rattle.std.proofs.lemmas.Map.Keys.{sorted_head, sorted_tail}
@@ -17,13 +16,11 @@ use Rattle.std.proofs.lemmas.Map.Lookups.{exact_signed, exact_bytes}
 use Rattle.std.proofs.lemmas.List.Sums.{take_while-cons}
 use Rattle.aria_value.specs.declared.value.Value.{Value}
 use Rattle.aria_value.specs.declared.value.Value.TheVariants.{Null, Int, Text}
-use Rattle.aria_value.specs.declared.definition.Key.{Key}
-use Rattle.aria_value.specs.declared.definition.Column.{Column}
 use Rattle.aria_value.specs.declared.definition.Definition.{Definition}
 use Rattle.aria_value.specs.ValueOrder.{value_total}
-use Rattle.aria_value.specs.Order.{value_cmp, value_at, key_columns, order_columns, key_cmp, put, sorted}
+use Rattle.aria_value.specs.Order.{value_cmp, value_at, key_columns, key_cmp, put, sorted}
 use Rattle.aria_model.specs.Step.{has_values}
-use Rattle.aria_memory.specs.Keyed.{values_cmp, values_in, has_key, are_keyed}
+use Rattle.aria_memory.specs.Keyed.{values_cmp, values_in, has_key}
 use Rattle.aria_memory.proofs.Entries.{sorted_values}
 use Rattle.aria_memory.proofs.Keyed.{values_total, keys_order}
 

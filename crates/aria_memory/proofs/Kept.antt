@@ -7,13 +7,13 @@ use Rattle.std.specs.Ordering.{nat_cmp}
 use Rattle.aria_value.specs.declared.value.Value.{Value}
 use Rattle.aria_value.specs.declared.definition.Definition.{Definition}
 use Rattle.aria_model.specs.declared.refusal.Refusal.{Refusal}
-use Rattle.aria_model.specs.declared.refusal.Refusal.TheVariants.{NoTable, TableExists, NotBuilt, TooManyRows}
+use Rattle.aria_model.specs.declared.refusal.Refusal.TheVariants.{TableExists, NotBuilt, TooManyRows}
 use Rattle.aria_model.specs.declared.refusal.Exception.{Exception}
 use Rattle.aria_model.specs.declared.reply.Reply.TheVariants.{Done}
 use Rattle.aria_model.specs.declared.statement.Statement.TheVariants.{Create, Insert, Drop}
 use Rattle.aria_model.specs.World as model
 use Rattle.aria_model.specs.World.{World, Content, Sound, Crashed, with_table}
-use Rattle.aria_model.specs.Step.{Outcome, refused, first_of, refused_where, unless, spent, is_taken, create, put_all, inserted, insert_into, insert, with_content, drop, flush, checkpoint}
+use Rattle.aria_model.specs.Step.{Outcome, first_of, refused_where, unless, spent, is_taken, create, put_all, inserted, insert_into, insert, with_content, drop, flush, checkpoint}
 use Rattle.aria_model.specs.Script.{is_refused}
 use Rattle.aria_model.specs.Journal.{changes}
 use Rattle.aria_memory.specs.declared.table.Table.{Table}

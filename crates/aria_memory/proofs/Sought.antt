@@ -1,5 +1,5 @@
 -- What a statement seeks by a key, one value after another.
-use Rattle.std.specs.Prelude.{◌≡◌, ℕ, zero, suc, ◌+◌, ◌<◌, ◌≤◌, Bool, true, false, ◌&&◌, cond, nat_lt, List, [], ◌∷◌, length, drop, Option, Some, None, refl}
+use Rattle.std.specs.Prelude.{◌≡◌, ℕ, zero, suc, ◌+◌, ◌<◌, ◌≤◌, true, false, ◌&&◌, cond, nat_lt, List, [], ◌∷◌, length, drop, Option, Some, None, refl}
 use Rattle.std.specs.Ordering.{is_eq}
 use Rattle.std.proofs.Common.{sym, ap, ◌∙◌, arith, get_or, drop-cons, add-one}
 use Rattle.std.proofs.lemmas.List.{drop_all}

@@ -1,5 +1,5 @@
 -- The outcome of an update, case by case.
-use Rattle.std.specs.Prelude.{◌≡◌, ℕ, suc, Bool, true, false, not, ◌==◌, nat_lt, cond, List, [], ◌∷◌, length, Option, Some, None, refl}
+use Rattle.std.specs.Prelude.{◌≡◌, ℕ, suc, true, false, not, ◌==◌, nat_lt, List, [], ◌∷◌, length, Option, Some, None, refl}
 use Rattle.std.proofs.Common.{sym, ap, ◌∙◌, arith, ne_eqb}
 use Rattle.aria_value.specs.declared.value.Value.{Value}
 use Rattle.aria_value.specs.declared.definition.Definition.{Definition}
@@ -7,7 +7,6 @@ use Rattle.aria_value.specs.Order.{key_columns}
 use Rattle.aria_model.specs.declared.refusal.Refusal.{Refusal}
 use Rattle.aria_model.specs.declared.refusal.Refusal.TheVariants.{NoTable, NoKey, TooManyRows}
 use Rattle.aria_model.specs.declared.refusal.Exception.{Exception}
-use Rattle.aria_model.specs.declared.reply.Reply.{Reply}
 use Rattle.aria_model.specs.declared.reply.Reply.TheVariants.{Count, No}
 use Rattle.aria_model.specs.declared.statement.Setting.{Setting}
 use Rattle.aria_model.specs.declared.statement.Statement.TheVariants.{Update}
@@ -43,10 +42,10 @@ abbrev pub update_at : World → List ℕ → List ℕ → List Value → List S
 update_at world name key sought settings exception found = elim found [
   | None ↦ refused world (NoTable name)
   | Some table ↦ with_content world name table.content (λ rows.
-    by_key world table.definition key sought (unknown_column table.definition.columns settings)
-    (λ number. first_of (bad_value (bad_setting table.definition settings) ∷ too_many (concerned table.definition number sought rows) ∷ spent_for table exception ∷ []))
-    (λ number. inserted world name table (length (concerned table.definition number sought rows))
-        (set_all table.definition settings exception 1 rows (concerned table.definition number sought rows))))
+      by_key world table.definition key sought (unknown_column table.definition.columns settings)
+      (λ number. first_of (bad_value (bad_setting table.definition settings) ∷ too_many (concerned table.definition number sought rows) ∷ spent_for table exception ∷ []))
+      (λ number. inserted world name table (length (concerned table.definition number sought rows))
+      (set_all table.definition settings exception 1 rows (concerned table.definition number sought rows))))
 ]
 
 -- an update by a key of this number, or by none
@@ -54,8 +53,8 @@ abbrev update_by : World → List ℕ → Definition → List (List Value) → L
 update_by world name d rows key sought settings exception number = elim number [
   | None ↦ refused world (NoKey key)
   | Some n ↦ unless (first_of (unknown_column d.columns settings ∷ bad_value (bad_sought d.columns [] (key_columns d.keys n) sought)
-        ∷ first_of (bad_value (bad_setting d settings) ∷ too_many (concerned d n sought rows) ∷ spent exception ∷ []) ∷ [])) world
-    (inserted world name (sound d rows) (length (concerned d n sought rows)) (set_all d settings exception 1 rows (concerned d n sought rows)))
+      ∷ first_of (bad_value (bad_setting d settings) ∷ too_many (concerned d n sought rows) ∷ spent exception ∷ []) ∷ [])) world
+      (inserted world name (sound d rows) (length (concerned d n sought rows)) (set_all d settings exception 1 rows (concerned d n sought rows)))
 ]
 
 update_numbered : (world : World) (name : List ℕ) (d : Definition) (rows : List (List Value)) (key : List ℕ) (sought : List Value) (settings : List Setting) (exception : Option Exception)
@@ -79,7 +78,7 @@ update_is world name d rows key sought settings exception n bad found has is b f
     let all = concerned d n sought rows in
     update_numbered world name d rows key sought settings exception (Some n) has is
     ∙ ap (λ why. unless why world (inserted world name (sound d rows) (length all) (set_all d settings exception 1 rows all)))
-      (regrouped (unknown_column d.columns settings) (bad_value (bad_sought d.columns [] (key_columns d.keys n) sought)) (bad_value (bad_setting d settings)) (too_many all) (spent exception))
+    (regrouped (unknown_column d.columns settings) (bad_value (bad_sought d.columns [] (key_columns d.keys n) sought)) (bad_value (bad_setting d settings)) (too_many all) (spent exception))
     ∙ (λ i. update_tested world name d rows settings exception (b i) (f i))
 
 -- what rows that are few enough leave
@@ -147,7 +146,7 @@ update_content world name key sought settings exception table content = with_con
     by_key world table.definition key sought (unknown_column table.definition.columns settings)
     (λ number. first_of (bad_value (bad_setting table.definition settings) ∷ too_many (concerned table.definition number sought rows) ∷ spent_for table exception ∷ []))
     (λ number. inserted world name table (length (concerned table.definition number sought rows))
-        (set_all table.definition settings exception 1 rows (concerned table.definition number sought rows))))
+    (set_all table.definition settings exception 1 rows (concerned table.definition number sought rows))))
 
 update_content-rows : (world : World) (name key : List ℕ) (sought : List Value) (settings : List Setting) (exception : Option Exception) (table : Table) (content : Content)
     → (update_content world name key sought settings exception table content).rows ≡ []
@@ -156,7 +155,7 @@ update_content-rows world name key sought settings exception table (Sound rows) 
     keyed_by-rows world table.definition key sought (unknown_column table.definition.columns settings)
     (λ number. first_of (bad_value (bad_setting table.definition settings) ∷ too_many (concerned table.definition number sought rows) ∷ spent_for table exception ∷ []))
     (λ number. inserted world name table (length (concerned table.definition number sought rows))
-        (set_all table.definition settings exception 1 rows (concerned table.definition number sought rows)))
+    (set_all table.definition settings exception 1 rows (concerned table.definition number sought rows)))
     (key_number table.definition.keys key)
     (λ n. inserted-rows world name table (length (concerned table.definition n sought rows)) (set_all table.definition settings exception 1 rows (concerned table.definition n sought rows)))
 
@@ -209,7 +208,7 @@ update_content_stays world name key sought settings exception table (Sound rows)
     keyed_by_stays world table.definition key sought (unknown_column table.definition.columns settings)
     (λ number. first_of (bad_value (bad_setting table.definition settings) ∷ too_many (concerned table.definition number sought rows) ∷ spent_for table exception ∷ []))
     (λ number. inserted world name table (length (concerned table.definition number sought rows))
-        (set_all table.definition settings exception 1 rows (concerned table.definition number sought rows)))
+    (set_all table.definition settings exception 1 rows (concerned table.definition number sought rows)))
     (key_number table.definition.keys key)
     (λ n. set_stays world name table settings exception rows (concerned table.definition n sought rows) plain has is)
 

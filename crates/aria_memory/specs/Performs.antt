@@ -1,7 +1,6 @@
 -- A statement on tables in memory.
 use Rattle.std.specs.Prelude.{◌≡◌, ℕ, Bool, true, false, List, ◌++◌, Option, Some}
 use Rattle.std.specs.List.{flat_map}
-use Rattle.aria_value.specs.declared.value.Value.{Value}
 use Rattle.aria_model.specs.declared.refusal.Exception.{Exception}
 use Rattle.aria_model.specs.declared.reply.Reply.{Reply}
 use Rattle.aria_model.specs.declared.statement.Statement.{Statement}

@@ -25,7 +25,7 @@ pub record IsSet (d : Definition) (changes : List Change) (old new : List (List 
 -- the same, but a refusal leaves the rows as they were
 pub record IsUpdated (d : Definition) (changes : List Change) (old new : List (List Value)) (answer : Option Refusal) : Type 0 where
   pub rows : (settings : List Setting) (olds : List (List Value)) → changes ≡ map (change_of d settings) olds
-    → new ≡ (if is_some answer then old else (set_all d settings None 1 old olds).rows)
+      → new ≡ (if is_some answer then old else (set_all d settings None 1 old olds).rows)
   pub refusal : (settings : List Setting) (olds : List (List Value)) → changes ≡ map (change_of d settings) olds → answer ≡ (set_all d settings None 1 old olds).refusal
 
 -- an entry put back

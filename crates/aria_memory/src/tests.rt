@@ -161,13 +161,8 @@ fn created_plain(
     tables.execute(alloc, statement, spent, &mut Bytes::new(alloc))
 }
 
-// The table t of the rows 1,10 and 2,20 and 3,30.
-fn three_rows(alloc: Global) -> Result<Tables, AllocError> {
-    let mut tables = Tables::new(alloc);
-    let _ = created(alloc, &mut tables, MAX_ROWS, None)?;
-    let rows = rows_of(alloc, &[&[1, 10], &[2, 20], &[3, 30]])?;
-    let _ = inserted(alloc, &mut tables, rows, None)?;
-    Ok(tables)
+fn three_rows(alloc: Global) -> Result<List<Row>, AllocError> {
+    rows_of(alloc, &[&[1, 10], &[2, 20], &[3, 30]])
 }
 
 #[test]
@@ -287,7 +282,11 @@ fn a_spent_log_refuses_behind_names_and_too_many_rows(rt: HostRuntime) -> Result
 #[test]
 fn an_update_sets_the_rows_it_concerns(rt: HostRuntime) -> Result<(), AllocError> {
     let alloc = rt.alloc();
-    let mut tables = three_rows(alloc)?;
+    let mut tables = Tables::new(alloc);
+    let reply = created(alloc, &mut tables, MAX_ROWS, None)?;
+    assert!(rt; matches!(reply, Reply::Done));
+    let reply = inserted(alloc, &mut tables, three_rows(alloc)?, None)?;
+    assert!(rt; matches!(reply, Reply::Count(3)));
     let set = settings_of(alloc, &[("v", 25)])?;
     let reply = updated(alloc, &mut tables, &[2], set, None)?;
     assert!(rt; matches!(reply, Reply::Count(1)));
@@ -311,7 +310,11 @@ fn an_update_sets_the_rows_it_concerns(rt: HostRuntime) -> Result<(), AllocError
 #[test]
 fn a_refused_update_changes_nothing(rt: HostRuntime) -> Result<(), AllocError> {
     let alloc = rt.alloc();
-    let mut tables = three_rows(alloc)?;
+    let mut tables = Tables::new(alloc);
+    let reply = created(alloc, &mut tables, MAX_ROWS, None)?;
+    assert!(rt; matches!(reply, Reply::Done));
+    let reply = inserted(alloc, &mut tables, three_rows(alloc)?, None)?;
+    assert!(rt; matches!(reply, Reply::Count(3)));
     // The first row would be a second row 2.
     let set = settings_of(alloc, &[("id", 2)])?;
     let reply = updated(alloc, &mut tables, &[], set, None)?;
@@ -331,7 +334,11 @@ fn a_refused_update_changes_nothing(rt: HostRuntime) -> Result<(), AllocError> {
 #[test]
 fn what_an_update_may_not_set(rt: HostRuntime) -> Result<(), AllocError> {
     let alloc = rt.alloc();
-    let mut tables = three_rows(alloc)?;
+    let mut tables = Tables::new(alloc);
+    let reply = created(alloc, &mut tables, MAX_ROWS, None)?;
+    assert!(rt; matches!(reply, Reply::Done));
+    let reply = inserted(alloc, &mut tables, three_rows(alloc)?, None)?;
+    assert!(rt; matches!(reply, Reply::Count(3)));
     // A column that isn't there is told before the values that are sought, of which there is one too many.
     let set = settings_of(alloc, &[("v", 1), ("w", 1)])?;
     let reply = updated(alloc, &mut tables, &[1, 1], set, None)?;
@@ -359,7 +366,11 @@ fn what_an_update_may_not_set(rt: HostRuntime) -> Result<(), AllocError> {
 #[test]
 fn a_dropped_table_is_gone(rt: HostRuntime) -> Result<(), AllocError> {
     let alloc = rt.alloc();
-    let mut tables = three_rows(alloc)?;
+    let mut tables = Tables::new(alloc);
+    let reply = created(alloc, &mut tables, MAX_ROWS, None)?;
+    assert!(rt; matches!(reply, Reply::Done));
+    let reply = inserted(alloc, &mut tables, three_rows(alloc)?, None)?;
+    assert!(rt; matches!(reply, Reply::Count(3)));
     let reply = dropped(alloc, &mut tables, "x", Some(7))?;
     assert!(rt; matches!(reply, Reply::No(Refusal::NoTable { .. })));
     let reply = dropped(alloc, &mut tables, "t", Some(7))?;
@@ -376,17 +387,16 @@ fn a_dropped_table_is_gone(rt: HostRuntime) -> Result<(), AllocError> {
 #[test]
 fn flush_and_checkpoint_change_nothing(rt: HostRuntime) -> Result<(), AllocError> {
     let alloc = rt.alloc();
-    let mut tables = three_rows(alloc)?;
+    let mut tables = Tables::new(alloc);
+    let reply = created(alloc, &mut tables, MAX_ROWS, None)?;
+    assert!(rt; matches!(reply, Reply::Done));
+    let reply = inserted(alloc, &mut tables, three_rows(alloc)?, None)?;
+    assert!(rt; matches!(reply, Reply::Count(3)));
     let reply = flushed(alloc, &mut tables, "t")?;
     assert!(rt; matches!(reply, Reply::Done));
     let reply = flushed(alloc, &mut tables, "x")?;
     assert!(rt; matches!(reply, Reply::No(Refusal::NoTable { .. })));
-    let reply = tables.execute(
-        alloc,
-        Statement::Checkpoint,
-        None,
-        &mut Bytes::new(alloc),
-    )?;
+    let reply = tables.execute(alloc, Statement::Checkpoint, None, &mut Bytes::new(alloc))?;
     assert!(rt; matches!(reply, Reply::Done));
     let reply = tables.execute(
         alloc,

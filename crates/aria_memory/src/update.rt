@@ -39,7 +39,11 @@ pub(crate) fn bad_update(
         Some(why) => return Some(why),
         None => {}
     }
-    match bad_sought(columns, key_columns(definition.keys.as_slice(), number), sought) {
+    match bad_sought(
+        columns,
+        key_columns(definition.keys.as_slice(), number),
+        sought,
+    ) {
         Some(column) => return Some(Refusal::BadValue { column }),
         None => {}
     }
@@ -62,7 +66,12 @@ pub(crate) fn changes_of(
     for row in found {
         let change = Change {
             key: key_of(alloc, first_key_columns(definition), row.as_slice())?,
-            row: set_row(alloc, definition.columns.as_slice(), settings, row.as_slice())?,
+            row: set_row(
+                alloc,
+                definition.columns.as_slice(),
+                settings,
+                row.as_slice(),
+            )?,
         };
         changes.push(change)?;
     }

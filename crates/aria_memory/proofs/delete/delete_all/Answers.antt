@@ -1,4 +1,4 @@
-use Rattle.std.proofs.Common.{◌≡◌, ◌∷◌, [], List, length, arith, sym, ap, ◌∙◌}
+use Rattle.std.proofs.Common.{◌≡◌, List, length, arith, sym, ap, ◌∙◌}
 use Rattle.std.specs.Vec.Iter.{into_iter_items}
 use Rattle.aria_value.specs.declared.value.Value.{Value}
 use Rattle.aria_memory.specs.Keyed.{values_cmp}

@@ -1,7 +1,6 @@
 use Rattle.std.proofs.Common.{◌≡◌, ◌++◌, [], ◌∷◌, map, sym, ap, ◌∙◌, Bor, List}
 use Rattle.std.specs.Prelude.{true, false, ◌&&◌}
 use Rattle.std.specs.List.{filter, take_while}
-use Rattle.std.specs.BTreeMap.{values}
 use Rattle.std.specs.Map.{values_of}
 use Rattle.std.specs.Ordering.{is_le}
 use Rattle.std.proofs.lemmas.List.{map-append}

@@ -1,4 +1,4 @@
-use Rattle.std.proofs.Common.{◌≡◌, ◌<◌, ℕ, length, sym, ap, ◌∙◌, subst}
+use Rattle.std.proofs.Common.{◌≡◌, ◌<◌, ℕ, length, sym, ◌∙◌, subst}
 use Rattle.std.specs.Prelude.{Some, List}
 use Rattle.aria_value.specs.Order.{key_columns}
 use Rattle.aria_model.specs.Step.{key_number}

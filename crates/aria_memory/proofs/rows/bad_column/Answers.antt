@@ -1,4 +1,4 @@
-use Rattle.std.proofs.Common.{◌≤◌, [], length, arith, sym, ap, ◌∙◌, ltb-false}
+use Rattle.std.proofs.Common.{◌≤◌, length, arith, sym, ap, ◌∙◌, ltb-false}
 use Rattle.std.specs.Option.{is_some}
 use Rattle.aria_memory.proofs.Keyed.{none_here, left_over}
 use Rattle.aria_memory.proofs.rows.bad_column.Goals as goal

@@ -15,7 +15,7 @@ returns-then-not-has_column c =
     let setting = c.setting-item.result in
     let missing : list_any (λ x. same_name x.name setting.column) columns ≡ false = sym c.has_column.ensures ∙ c.if-not-has_column.true in
     sym (unknown_here columns settings i setting c.loop-setting-test.true c.setting-item.is
-      ∙ ap (λ b. cond b (unknown_column columns (drop (i + 1) settings)) (Some (NoColumn setting.column))) missing)
+    ∙ ap (λ b. cond b (unknown_column columns (drop (i + 1) settings)) (Some (NoColumn setting.column))) missing)
     ∙ c.loop-setting.invariant
 
 pub loop-setting-preserved : goal.loop-setting-preserved
@@ -26,5 +26,5 @@ loop-setting-preserved c =
     let setting = c.setting-item.result in
     let there : list_any (λ x. same_name x.name setting.column) columns ≡ true = sym c.has_column.ensures ∙ c.if-not-has_column.false in
     sym (unknown_here columns settings i setting c.loop-setting-test.true c.setting-item.is
-      ∙ ap (λ b. cond b (unknown_column columns (drop (i + 1) settings)) (Some (NoColumn setting.column))) there)
+    ∙ ap (λ b. cond b (unknown_column columns (drop (i + 1) settings)) (Some (NoColumn setting.column))) there)
     ∙ c.loop-setting.invariant

@@ -1,4 +1,4 @@
-use Rattle.std.proofs.Common.{◌≡◌, ◌∷◌, ◌++◌, [], arith, ap, sym, ◌∙◌, subst, length, List}
+use Rattle.std.proofs.Common.{◌≡◌, ◌∷◌, arith, ap, sym, ◌∙◌, subst, length, List}
 use Rattle.std.specs.Prelude.{None, true}
 use Rattle.std.specs.BTreeMap.{insert_entry, is_at}
 use Rattle.std.specs.Map.{values_of, lookup, remove_entry}
@@ -71,8 +71,8 @@ loop-change-preserved c =
       undo = ap (λ steps. taken_back steps new) c.in_ok-push.ensures.items
           ∙ taken_back-push c.loop-change.done.items step new
           ∙ ap (taken_back c.loop-change.done.items)
-            ((λ i. put_back was (remove_entry (is_at (values_cmp (c.in_ok-put.ensures i))) (entries i)))
-            ∙ change_back es change.key key change.row was c.loop-change.invariant.ordered c.in_ok-was.ensures.old_key c.in_ok-was.ensures.old_row fresh)
+          ((λ i. put_back was (remove_entry (is_at (values_cmp (c.in_ok-put.ensures i))) (entries i)))
+          ∙ change_back es change.key key change.row was c.loop-change.invariant.ordered c.in_ok-was.ensures.old_key c.in_ok-was.ensures.old_row fresh)
           ∙ c.loop-change.invariant.undo;
       whole = let longer = ap length c.in-Some.ensures.steps.0 in omega (arith, longer, c.in-Some.ensures.steps.1, c.loop-change.invariant.whole);
     }

@@ -1,4 +1,4 @@
-use Rattle.std.proofs.Common.{◌≡◌, ◌∷◌, [], ◌++◌, length, arith, length-append, sym, ap, ◌∙◌}
+use Rattle.std.proofs.Common.{◌∷◌, [], length, arith, length-append, sym, ap, ◌∙◌}
 use Rattle.aria_memory.specs.Updated.{taken_back}
 use Rattle.aria_memory.proofs.Changed.{taken_back-push}
 use Rattle.aria_memory.proofs.update.take_back.Goals as goal

@@ -38,7 +38,7 @@ returns-in-Some-bad_update c = λ world name has.
     let bad : bad_first table.definition c.args.sought.now c.args.settings.now number ≡ Some c.in-Some-bad_update.why = sym c.bad_update.ensures ∙ c.in-Some-bad_update.is in
     leaves_same world name (table_of table) (update world name c.args.key c.args.sought.now c.args.settings.now exception) c.in-Some-bad_update.why has
     (update_is world name table.definition rows c.args.key c.args.sought.now c.args.settings.now exception number (Some c.in-Some-bad_update.why)
-      (concerned table.definition number c.args.sought.now rows) has is bad (λ i. concerned table.definition number c.args.sought.now rows))
+    (concerned table.definition number c.args.sought.now rows) has is bad (λ i. concerned table.definition number c.args.sought.now rows))
 
 pub returns-then-count-gt-MAX_STATEMENT_ROWS : goal.returns-then-count-gt-MAX_STATEMENT_ROWS
 returns-then-count-gt-MAX_STATEMENT_ROWS c = λ world name has.

@@ -2,7 +2,7 @@ use Rattle.std.proofs.Common.{◌≡◌, sym, ap, ◌∙◌}
 use Rattle.std.specs.Prelude.{true}
 use Rattle.std.specs.Option.{option_map}
 use Rattle.aria_model.specs.declared.refusal.Exception.TheVariants.{Spent}
-use Rattle.aria_model.specs.Step.{is_taken, unless, spent}
+use Rattle.aria_model.specs.Step.{is_taken}
 use Rattle.aria_memory.specs.Worlds.{world_of}
 use Rattle.aria_memory.proofs.Worlds.{world_without, taken_is}
 use Rattle.aria_memory.proofs.Outcomes.{drop_gone}
