@@ -18,8 +18,7 @@ use Rattle.aria_value.specs.declared.value.Value.{Value}
 use Rattle.aria_value.specs.declared.value.Value.TheVariants.{Null, Int, Text}
 use Rattle.aria_value.specs.declared.definition.Definition.{Definition}
 use Rattle.aria_value.specs.ValueOrder.{value_total}
-use Rattle.aria_value.specs.Order.{value_cmp, value_at, key_columns, key_cmp, put, sorted}
-use Rattle.aria_model.specs.Step.{has_values}
+use Rattle.aria_value.specs.Order.{value_cmp, value_at, key_columns, key_cmp, put, sorted, has_values}
 use Rattle.aria_memory.specs.Keyed.{values_cmp, values_in, has_key}
 use Rattle.aria_memory.proofs.Entries.{sorted_values}
 use Rattle.aria_memory.proofs.Keyed.{values_total, keys_order}

@@ -6,14 +6,14 @@ use Rattle.std.proofs.Common.{sym, ap, ◌∙◌, arith, length-append}
 use Rattle.std.proofs.lemmas.Bool.{eqb-true}
 use Rattle.aria_value.specs.declared.value.Value.{Value}
 use Rattle.aria_value.specs.declared.definition.Definition.{Definition}
-use Rattle.aria_value.specs.Order.{key_columns, key_cmp, sorted}
+use Rattle.aria_value.specs.Order.{key_columns, key_cmp, sorted, has_values}
 use Rattle.aria_model.specs.declared.refusal.Refusal.{Refusal}
 use Rattle.aria_model.specs.declared.refusal.Refusal.TheVariants.{NoKey, NoTable, TooManyRows}
 use Rattle.aria_model.specs.declared.refusal.Exception.{Exception}
 use Rattle.aria_model.specs.declared.reply.Reply.TheVariants.{Count}
 use Rattle.aria_model.specs.declared.statement.Statement.TheVariants.{Delete}
 use Rattle.aria_model.specs.World.{World, Table, Content, Sound, Crashed}
-use Rattle.aria_model.specs.Step.{Outcome, refused, first_of, refused_where, unless, spent, bad_value, key_number, spent_for, bad_sought, has_values, concerned, others, by_key, with_content, with_rows, too_many, select, delete}
+use Rattle.aria_model.specs.Step.{Outcome, refused, first_of, refused_where, unless, spent, bad_value, key_number, spent_for, bad_sought, concerned, others, by_key, with_content, with_rows, too_many, select, delete}
 use Rattle.aria_model.specs.Journal.{concerns_some, changes}
 use Rattle.aria_memory.specs.Seeking.{seek_refusal, deleted}
 use Rattle.aria_memory.proofs.Worlds.{with_table_same}

@@ -10,8 +10,9 @@ use Rattle.aria_value.specs.declared.value.Value.TheVariants.{Null}
 use Rattle.aria_value.specs.declared.definition.Key.{Key}
 use Rattle.aria_value.specs.declared.definition.Column.{Column}
 use Rattle.aria_value.specs.Defined.{same_name, kind_at}
-use Rattle.aria_value.specs.Order.{value_cmp, value_at, key_columns}
-use Rattle.aria_model.specs.Step.{option_suc, key_number, may_seek, name_at, bad_sought, has_values}
+use Rattle.aria_value.specs.Order.{value_cmp, value_at, key_columns, has_values}
+use Rattle.aria_value.specs.Entry.{has_type}
+use Rattle.aria_model.specs.Step.{option_suc, key_number, name_at, bad_sought}
 use Rattle.aria_memory.specs.Keyed.{are_columns_of}
 
 -- ---- the key of a name
@@ -90,11 +91,11 @@ bad_sought-past columns last key values nth past low = rw (drop_all nth key past
 pub bad_sought-next : (columns : List Column) (last key : List ℕ) (values : List Value) (nth number : ℕ) (value : Value) (column : Column)
     → nth < length key → nth < length values → get_or key nth number ≡ number → get_or values nth value ≡ value → number < length columns → get_or columns number column ≡ column
     → bad_sought columns last (drop nth key) (drop nth values)
-    ≡ cond (may_seek column.kind value) (bad_sought columns column.name (drop (nth + 1) key) (drop (nth + 1) values)) (Some column.name)
+    ≡ cond (has_type column.kind value) (bad_sought columns column.name (drop (nth + 1) key) (drop (nth + 1) values)) (Some column.name)
 bad_sought-next columns last key values nth number value column lowk lowv isk isv lowc isc =
     let at = column_at columns number column lowc isc in
     rw (add-one, drop-cons key nth number, drop-cons values nth value, isk, isv)
-    (λ i. cond (may_seek (at.0 i) value) (bad_sought columns (at.1 i) (drop (suc nth) key) (drop (suc nth) values)) (Some (at.1 i)))
+    (λ i. cond (has_type (at.0 i) value) (bad_sought columns (at.1 i) (drop (suc nth) key) (drop (suc nth) values)) (Some (at.1 i)))
 
 -- ---- values that a row has
 

@@ -14,8 +14,8 @@ use Rattle.std.proofs.lemmas.List.Folds.{list_any-append}
 use Rattle.std.proofs.lemmas.Map.Keys.{sorted_head, sorted_tail}
 use Rattle.aria_value.specs.declared.value.Value.{Value}
 use Rattle.aria_value.specs.declared.definition.Definition.{Definition}
-use Rattle.aria_value.specs.Order.{value_cmp, value_at, columns_cmp, key_columns, key_cmp, sorted}
-use Rattle.aria_model.specs.Step.{has_values, others}
+use Rattle.aria_value.specs.Order.{value_cmp, value_at, columns_cmp, key_columns, key_cmp, sorted, has_values}
+use Rattle.aria_model.specs.Step.{others}
 use Rattle.aria_memory.specs.Keyed.{values_cmp, values_in, has_key}
 use Rattle.aria_memory.specs.Without.{without}
 use Rattle.aria_memory.specs.Seeking.{concerned_keys}

@@ -5,8 +5,9 @@ ghost use Rattle.std.specs.List.{filter};
 ghost use Rattle.std.specs.BTreeMap.{IsOrdered, values};
 ghost use Rattle.std.specs.Ordering.{is_eq};
 ghost use Rattle.aria_value.specs.Defined.{is_definition};
-ghost use Rattle.aria_value.specs.Order.{value_cmp, value_at, columns_cmp, key_columns, order_columns, sorted};
-ghost use Rattle.aria_model.specs.Step.{key_number, may_seek, bad_sought, has_values, concerned};
+ghost use Rattle.aria_value.specs.Order.{value_cmp, value_at, columns_cmp, key_columns, order_columns, sorted, has_values};
+ghost use Rattle.aria_value.specs.Entry.{has_type};
+ghost use Rattle.aria_model.specs.Step.{key_number, bad_sought, concerned};
 ghost use Rattle.aria_memory.specs.Keyed.{values_cmp, values_in, are_keyed, are_columns_of};
 ghost use Rattle.aria_memory.specs.Seeking.{seek_refusal};
 
@@ -42,7 +43,7 @@ pub(crate) fn key_columns(keys: &[Key], number: usize) -> &[u8]
 
 // Whether a value may be sought in a column of this kind.
 fn may_seek(kind: ColumnType, value: &Value) -> bool
-    ensures { result ≡ may_seek kind value.now }
+    ensures { result ≡ has_type kind value.now }
 {
     match (kind, value) {
         (_, Value::Null) => true,

@@ -7,7 +7,8 @@ ghost use Rattle.aria_value.specs.Defined.{is_definition};
 ghost use Rattle.aria_value.specs.Order.{value_at, key_columns};
 ghost use Rattle.aria_value.specs.Stored.{value_length, row_length};
 ghost use Rattle.aria_model.specs.declared.refusal.Refusal.TheVariants.{Duplicate};
-ghost use Rattle.aria_model.specs.Step.{may_hold, bad_column, first_key_name, row_refusal};
+ghost use Rattle.aria_value.specs.Rows.{may_hold};
+ghost use Rattle.aria_model.specs.Step.{bad_column, first_key_name, row_refusal};
 ghost use Rattle.aria_memory.specs.Keyed.{values_in, are_keyed};
 
 use crate::row_key::RowKey;

@@ -6,7 +6,7 @@ use Rattle.std.specs.Ordering.{is_lt, is_gt}
 use Rattle.std.proofs.lemmas.List.{length-append}
 use Rattle.aria_value.specs.declared.value.Value.{Value}
 use Rattle.aria_value.specs.declared.definition.Definition.{Definition}
-use Rattle.aria_value.specs.Order.{key_columns, key_cmp, sorted}
+use Rattle.aria_value.specs.Order.{key_columns, key_cmp, sorted, has_values}
 use Rattle.aria_model.specs.declared.refusal.Refusal.{Refusal}
 use Rattle.aria_model.specs.declared.refusal.Refusal.TheVariants.{TableExists, NoTable, NoKey, TooManyRows, NotBuilt}
 use Rattle.aria_model.specs.declared.refusal.Exception.{Exception}
@@ -16,7 +16,7 @@ use Rattle.aria_model.specs.declared.statement.Setting.{Setting}
 use Rattle.aria_model.specs.declared.statement.Statement.{Statement}
 use Rattle.aria_model.specs.declared.statement.Statement.TheVariants.{Create, Insert, Delete, Update, Select, Drop, Flush, Checkpoint}
 use Rattle.aria_model.specs.World.{World, Table, Content, Sound, Crashed, with_table}
-use Rattle.aria_model.specs.Step.{Outcome, refused, first_of, refused_where, unless, spent, is_taken, bad_value, create, put_all, with_rows, inserted, insert_into, insert, key_number, bad_sought, has_values, concerned, others, by_key, with_content, on_table, delete, unknown_column, set_all, update, drop, perform}
+use Rattle.aria_model.specs.Step.{Outcome, refused, first_of, refused_where, unless, spent, is_taken, bad_value, create, put_all, with_rows, inserted, insert_into, insert, key_number, bad_sought, concerned, others, by_key, with_content, on_table, delete, unknown_column, set_all, update, drop, perform}
 use Rattle.aria_model.specs.Script.{is_refused}
 use Rattle.aria_model.specs.Journal.{concerns_some, changes}
 use Rattle.aria_model.proofs.Worlds.{with_rows-same}

@@ -3,14 +3,13 @@ use Rattle.std.specs.Prelude.{ℕ, zero, suc, ◌+◌, Bool, true, false, not, �
 use Rattle.std.specs.List.{list_any}
 use Rattle.std.specs.Ordering.{is_eq}
 use Rattle.aria_value.specs.declared.value.Value.{Value}
-use Rattle.aria_value.specs.declared.value.Value.TheVariants as values
-use Rattle.aria_value.specs.declared.definition.ColumnType.{ColumnType}
-use Rattle.aria_value.specs.declared.definition.ColumnType.TheVariants as kinds
 use Rattle.aria_value.specs.declared.definition.Column.{Column}
 use Rattle.aria_value.specs.declared.definition.Key.{Key}
 use Rattle.aria_value.specs.declared.definition.Definition.{Definition}
 use Rattle.aria_value.specs.Defined.{same_name, kind_at}
-use Rattle.aria_value.specs.Order.{value_cmp, value_at, key_columns, key_cmp, put, sorted}
+use Rattle.aria_value.specs.Order.{key_columns, key_cmp, put, sorted, has_values}
+use Rattle.aria_value.specs.Rows.{may_hold}
+use Rattle.aria_value.specs.Entry.{has_type}
 use Rattle.aria_value.specs.Stored.{row_length}
 use Rattle.aria_model.specs.declared.refusal.Refusal.{Refusal}
 use Rattle.aria_model.specs.declared.refusal.Refusal.TheVariants.{LogSpent, TableFull, TableCrashed, Duplicate, RowTooLong, BadValue, RowsFull, NoTable, TableExists, NoKey, TooManyRows, NoColumn, NotBuilt}
@@ -71,14 +70,6 @@ abbrev pub create : World → List ℕ → Bool → Definition → Option Except
 create world name plain definition exception =
     unless (first_of (refused_where (is_taken (world name)) (TableExists name) ∷ refused_where plain NotBuilt ∷ spent exception ∷ [])) world
     (record { world = with_table world name (Some (record { definition = definition; plain = plain; content = Sound [] })); rows = []; reply = Done })
-
--- whether a column may hold a value; null isn't allowed in a column of the first key
-abbrev pub may_hold : Bool → ColumnType → Value → Bool
-may_hold keyed kind values.Null = not keyed
-may_hold keyed kinds.Int (values.Int n) = true
-may_hold keyed kinds.Int (values.Text bytes) = false
-may_hold keyed (kinds.Text limit) (values.Int n) = false
-may_hold keyed (kinds.Text limit) (values.Text bytes) = nat_le (length bytes) limit
 
 -- From column nth on: the first column that may not hold its value or has none, and the last one where values are left.
 abbrev pub bad_column : List ℕ → ℕ → List ℕ → List Column → List Value → Option (List ℕ)
@@ -153,14 +144,6 @@ key_number (key ∷ keys) wanted = if same_name key.name wanted then Some 0 else
 abbrev pub spent_for : Table → Option Exception → Option Refusal
 spent_for table exception = if table.plain then None else spent exception
 
--- whether a value may be sought in a column of this kind: null in any, and a text of any length
-abbrev pub may_seek : ColumnType → Value → Bool
-may_seek kind values.Null = true
-may_seek kinds.Int (values.Int n) = true
-may_seek kinds.Int (values.Text bytes) = false
-may_seek (kinds.Text limit) (values.Int n) = false
-may_seek (kinds.Text limit) (values.Text bytes) = true
-
 -- the name of a column
 abbrev pub name_at : List Column → ℕ → List ℕ
 name_at [] n = []
@@ -172,13 +155,7 @@ abbrev pub bad_sought : List Column → List ℕ → List ℕ → List Value →
 bad_sought columns last key [] = None
 bad_sought columns last [] (v ∷ vs) = Some last
 bad_sought columns last (c ∷ cs) (v ∷ vs) =
-    if may_seek (kind_at columns c) v then bad_sought columns (name_at columns c) cs vs else Some (name_at columns c)
-
--- The row has these values first in a key's columns.
-abbrev pub has_values : List ℕ → List Value → List Value → Bool
-has_values columns [] row = true
-has_values [] (v ∷ vs) row = false
-has_values (c ∷ cs) (v ∷ vs) row = is_eq (value_cmp (value_at row c) v) && has_values cs vs row
+    if has_type (kind_at columns c) v then bad_sought columns (name_at columns c) cs vs else Some (name_at columns c)
 
 -- the rows that a statement concerns, in the key's order
 abbrev pub concerned : Definition → ℕ → List Value → List (List Value) → List (List Value)

@@ -1,6 +1,7 @@
 use Rattle.std.proofs.Common.{◌≡◌, ◌+◌, sym, ap, ◌∙◌, drop, [], slice_index_or}
 use Rattle.std.specs.Prelude.{Some, true, false, cond}
-use Rattle.aria_model.specs.Step.{bad_sought, may_seek}
+use Rattle.aria_value.specs.Entry.{has_type}
+use Rattle.aria_model.specs.Step.{bad_sought}
 use Rattle.aria_memory.proofs.Sought.{bad_sought-last, bad_sought-next, column_within}
 use Rattle.aria_memory.proofs.find.bad_sought.Goals as goal
 
@@ -19,7 +20,7 @@ returns-then-not-may_seek c =
     let value = c.index-values-nth.result in
     let low = c.in-Some.ensures.lookup.3.0 in
     let at = sym c.in-Some.ensures.lookup.1 in
-    let refused : may_seek column.kind value ≡ false = cc (c.may_seek.ensures, c.if-not-may_seek.true) in
+    let refused : has_type column.kind value ≡ false = cc (c.may_seek.ensures, c.if-not-may_seek.true) in
     let next = bad_sought-next columns c.loop-nth.last key values nth number value column low c.loop-nth-test.true at (sym c.index-values-nth.is)
     (column_within columns key nth number c.requires.within low at) (sym c.index-columns-number.is) in
     sym (next ∙ ap (λ b. cond b (bad_sought columns column.name (drop (nth + 1) key) (drop (nth + 1) values)) (Some column.name)) refused) ∙ c.loop-nth.invariant
@@ -35,7 +36,7 @@ loop-nth-preserved c =
     let value = c.index-values-nth.result in
     let low = c.in-Some.ensures.lookup.3.0 in
     let at = sym c.in-Some.ensures.lookup.1 in
-    let passed : may_seek column.kind value ≡ true = cc (c.may_seek.ensures, c.if-not-may_seek.false) in
+    let passed : has_type column.kind value ≡ true = cc (c.may_seek.ensures, c.if-not-may_seek.false) in
     let next = bad_sought-next columns c.loop-nth.last key values nth number value column low c.loop-nth-test.true at (sym c.index-values-nth.is)
     (column_within columns key nth number c.requires.within low at) (sym c.index-columns-number.is) in
     sym (next ∙ ap (λ b. cond b (bad_sought columns column.name (drop (nth + 1) key) (drop (nth + 1) values)) (Some column.name)) passed) ∙ c.loop-nth.invariant

@@ -5,8 +5,7 @@ use Rattle.std.specs.Map.{values_of}
 use Rattle.std.specs.Ordering.{is_le}
 use Rattle.std.proofs.lemmas.List.{map-append}
 use Rattle.aria_value.specs.declared.value.Value.{Value}
-use Rattle.aria_value.specs.Order.{key_columns}
-use Rattle.aria_model.specs.Step.{has_values}
+use Rattle.aria_value.specs.Order.{key_columns, has_values}
 use Rattle.aria_memory.specs.Keyed.{values_cmp}
 use Rattle.aria_memory.proofs.Found.{first_run, run_turn, run_stop, run_end, sorted_some}
 use Rattle.aria_memory.proofs.find.find_by_first.Goals as goal

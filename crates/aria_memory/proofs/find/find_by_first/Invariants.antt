@@ -3,8 +3,7 @@ use Rattle.std.specs.Prelude.{map}
 use Rattle.std.specs.List.{filter, take_while}
 use Rattle.std.specs.BTreeMap.{values}
 use Rattle.std.specs.Map.{values_of}
-use Rattle.aria_value.specs.Order.{key_columns}
-use Rattle.aria_model.specs.Step.{has_values}
+use Rattle.aria_value.specs.Order.{key_columns, has_values}
 use Rattle.aria_memory.proofs.find.find_by_first.Given as goal
 
 -- the rows so far, and those to come as long as they have the values, are all that have them

@@ -1,5 +1,5 @@
 use Rattle.std.proofs.Common.{◌≡◌, drop}
-use Rattle.aria_model.specs.Step.{has_values}
+use Rattle.aria_value.specs.Order.{has_values}
 use Rattle.aria_memory.proofs.find.has_values.Given as goal
 
 -- the row has the values so far, so the rest decides
