@@ -16,19 +16,11 @@ use Rattle.aria_model.specs.World.{World, Content, Sound, Crashed, with_table}
 use Rattle.aria_model.specs.Step.{Outcome, first_of, refused_where, unless, spent, is_taken, create, put_all, inserted, insert_into, insert, with_content, drop, flush, checkpoint}
 use Rattle.aria_model.specs.Script.{is_refused}
 use Rattle.aria_model.specs.Journal.{changes}
+use Rattle.aria_model.proofs.Kept.{is_plain, HasNoPlain}
 use Rattle.aria_memory.specs.declared.table.Table.{Table}
 use Rattle.aria_memory.specs.declared.tables.Tables.{Tables}
 use Rattle.aria_memory.specs.Worlds.{table_of, world_of}
 use Rattle.aria_memory.proofs.Outcomes.{insert_at, drop_at, flush_at}
-
--- a table is there, and is a plain one
-abbrev pub is_plain : Option model.Table → Bool
-is_plain None = false
-is_plain (Some table) = table.plain
-
--- the world has no plain tables
-abbrev pub HasNoPlain : World → Type 0
-HasNoPlain world = (name : List ℕ) → is_plain (world name) ≡ false
 
 transactional : (found : Option Table) → is_plain (option_map table_of found) ≡ false
 transactional None = refl

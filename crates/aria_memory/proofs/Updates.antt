@@ -16,7 +16,7 @@ use Rattle.aria_model.specs.Journal.{changes, concerns_some}
 use Rattle.aria_memory.specs.Performs.{Leaves}
 use Rattle.aria_memory.proofs.Worlds.{with_table_same}
 use Rattle.aria_memory.proofs.Outcomes.{sound, no_rows_unless, same_puts, inserted-rows}
-use Rattle.aria_memory.proofs.Kept.{is_plain, HasNoPlain}
+use Rattle.aria_model.proofs.Kept.{is_plain, HasNoPlain}
 
 -- ---- an update of a sound table
 
