@@ -1,22 +1,16 @@
 -- The outcome of each statement that seeks values by a key, case by case.
-use Rattle.std.specs.Prelude.{◌≡◌, ℕ, Bool, true, false, not, ◌==◌, nat_lt, cond, List, [], ◌∷◌, length, filter, Option, Some, None, refl}
-use Rattle.std.specs.Ordering.{is_lt, is_gt}
-use Rattle.std.specs.declared.cmp.Ordering.{Ordering}
-use Rattle.std.proofs.Common.{sym, ap, ◌∙◌, arith, length-append}
-use Rattle.std.proofs.lemmas.Bool.{eqb-true}
+use Rattle.std.specs.Prelude.{◌≡◌, ℕ, Bool, nat_lt, List, [], ◌∷◌, length, Option, Some, None, refl}
+use Rattle.std.proofs.Common.{sym, ap, ◌∙◌}
 use Rattle.aria_value.specs.declared.value.Value.{Value}
 use Rattle.aria_value.specs.declared.definition.Definition.{Definition}
-use Rattle.aria_value.specs.Order.{key_columns, key_cmp, sorted, has_values}
+use Rattle.aria_value.specs.Order.{key_columns}
 use Rattle.aria_model.specs.declared.refusal.Refusal.{Refusal}
 use Rattle.aria_model.specs.declared.refusal.Refusal.TheVariants.{NoKey, NoTable, TooManyRows}
 use Rattle.aria_model.specs.declared.refusal.Exception.{Exception}
 use Rattle.aria_model.specs.declared.reply.Reply.TheVariants.{Count}
-use Rattle.aria_model.specs.declared.statement.Statement.TheVariants.{Delete}
 use Rattle.aria_model.specs.World.{World, Table, Content, Sound, Crashed}
-use Rattle.aria_model.specs.Step.{Outcome, refused, first_of, refused_where, unless, spent, bad_value, key_number, spent_for, bad_sought, concerned, others, by_key, with_content, with_rows, too_many, select, delete}
-use Rattle.aria_model.specs.Journal.{concerns_some, changes}
+use Rattle.aria_model.specs.Step.{Outcome, refused, first_of, refused_where, unless, spent, bad_value, key_number, spent_for, bad_sought, concerned, by_key, with_content, too_many, select, delete}
 use Rattle.aria_memory.specs.Seeking.{seek_refusal, deleted}
-use Rattle.aria_memory.proofs.Worlds.{with_table_same}
 use Rattle.aria_memory.proofs.Outcomes.{sound, no_rows_unless}
 
 -- ---- the key that is named
@@ -144,70 +138,3 @@ delete_at-rows world name key sought exception (Some table) = delete_content-row
 -- a delete tells no rows
 pub delete-rows : (world : World) (name key : List ℕ) (sought : List Value) (exception : Option Exception) → (delete world name key sought exception).rows ≡ []
 delete-rows world name key sought exception = delete_at-rows world name key sought exception (world name)
-
--- ---- a delete that concerns no row
-
-sorted_none : (order : List Value → List Value → Ordering) (rows : List (List Value)) → length (sorted order rows) ≡ 0 → rows ≡ []
-sorted_none order [] none = refl
-sorted_none order (row ∷ rows) none =
-    let below = filter (λ r. is_lt (order r row)) (sorted order rows) in
-    let above = filter (λ r. is_gt (order r row)) (sorted order rows) in
-    absurd (omega (arith, length-append below (row ∷ above), none))
-
-none_passes : (p : List Value → Bool) (rows : List (List Value)) → filter p rows ≡ [] → filter (λ row. not (p row)) rows ≡ rows
-none_passes p [] none = refl
-none_passes p (row ∷ rows) none = elim (p row) as (λ b. cond b (row ∷ filter p rows) (filter p rows) ≡ [] → cond (not b) (row ∷ filter (λ r. not (p r)) rows) (filter (λ r. not (p r)) rows) ≡ row ∷ rows) [
-  | true ↦ λ h. absurd (cc)
-  | false ↦ λ h. ap (λ l. row ∷ l) (none_passes p rows h)
-] none
-
--- where none is concerned, the others are all
-others_all : (d : Definition) (n : ℕ) (sought : List Value) (rows : List (List Value)) → length (concerned d n sought rows) ≡ 0 → others d n sought rows ≡ rows
-others_all d n sought rows none =
-    none_passes (has_values (key_columns d.keys n) sought) rows (sorted_none (key_cmp d n) (filter (has_values (key_columns d.keys n) sought) rows) none)
-
--- where no row was concerned, the world is as it was
-abbrev KeepsNone : World → Outcome → Type 0
-KeepsNone world outcome = concerns_some outcome.reply ≡ false → outcome.world ≡ world
-
-unless_keeps : (refusal : Option Refusal) (world : World) (outcome : Outcome) → KeepsNone world outcome → KeepsNone world (unless refusal world outcome)
-unless_keeps None world outcome keeps = keeps
-unless_keeps (Some why) world outcome keeps = λ _. refl
-
-not_false : (b : Bool) → not b ≡ false → b ≡ true
-not_false true h = refl
-not_false false h = absurd (cc)
-
-is_none : (n : ℕ) → not (n == 0) ≡ false → n ≡ 0
-is_none n h = eqb-true n 0 (not_false (n == 0) h)
-
-with_same_rows : (world : World) (name : List ℕ) (d : Definition) (plain : Bool) (rows left : List (List Value)) → world name ≡ Some (record { definition = d; plain = plain; content = Sound rows }) → left ≡ rows
-    → with_rows world name (record { definition = d; plain = plain; content = Sound rows }) left ≡ world
-with_same_rows world name d plain rows left has same =
-    ap (with_rows world name (record { definition = d; plain = plain; content = Sound rows })) same
-    ∙ with_table_same world name (Some (record { definition = d; plain = plain; content = Sound rows })) has
-
-by_number_keeps : (world : World) (d : Definition) (key : List ℕ) (sought : List Value) (later : ℕ → Option Refusal) (does : ℕ → Outcome) (number : Option ℕ) → ((n : ℕ) → KeepsNone world (does n))
-    → KeepsNone world (by_number world d key sought later does number)
-by_number_keeps world d key sought later does None keeps = λ _. refl
-by_number_keeps world d key sought later does (Some n) keeps =
-    unless_keeps (first_of (None ∷ bad_value (bad_sought d.columns [] (key_columns d.keys n) sought) ∷ later n ∷ [])) world (does n) (keeps n)
-
-delete_content_keeps : (world : World) (name key : List ℕ) (sought : List Value) (exception : Option Exception) (d : Definition) (plain : Bool) (content : Content)
-    → world name ≡ Some (record { definition = d; plain = plain; content = content })
-    → KeepsNone world (deletes world name key sought exception (record { definition = d; plain = plain; content = content }))
-delete_content_keeps world name key sought exception d plain Crashed has = λ _. refl
-delete_content_keeps world name key sought exception d plain (Sound rows) has =
-    let table : Table = record { definition = d; plain = plain; content = Sound rows } in
-    by_number_keeps world d key sought (λ number. first_of (too_many (concerned d number sought rows) ∷ spent_for table exception ∷ [])) (λ number. deleted table number sought rows world name) (key_number d.keys key)
-    (λ n none. with_same_rows world name d plain rows (others d n sought rows) has (others_all d n sought rows (is_none (length (concerned d n sought rows)) none)))
-
-delete_at_keeps : (world : World) (name key : List ℕ) (sought : List Value) (exception : Option Exception) (found : Option Table) → world name ≡ found
-    → KeepsNone world (at_table world name (deletes world name key sought exception) found)
-delete_at_keeps world name key sought exception None has = λ _. refl
-delete_at_keeps world name key sought exception (Some table) has = delete_content_keeps world name key sought exception table.definition table.plain table.content has
-
--- A delete that concerns no row leaves the world as it was.
-pub delete_kept : (world : World) (name key : List ℕ) (sought : List Value) (exception : Option Exception)
-    → changes (Delete name key sought) (delete world name key sought exception).reply ≡ false → (delete world name key sought exception).world ≡ world
-delete_kept world name key sought exception = delete_at_keeps world name key sought exception (world name) refl

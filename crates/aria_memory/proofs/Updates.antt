@@ -1,6 +1,6 @@
 -- The outcome of an update, case by case.
-use Rattle.std.specs.Prelude.{◌≡◌, ℕ, suc, true, false, not, ◌==◌, nat_lt, List, [], ◌∷◌, length, Option, Some, None, refl}
-use Rattle.std.proofs.Common.{sym, ap, ◌∙◌, arith, ne_eqb}
+use Rattle.std.specs.Prelude.{◌≡◌, ℕ, true, false, nat_lt, List, [], ◌∷◌, length, Option, Some, None, refl}
+use Rattle.std.proofs.Common.{sym, ap, ◌∙◌}
 use Rattle.aria_value.specs.declared.value.Value.{Value}
 use Rattle.aria_value.specs.declared.definition.Definition.{Definition}
 use Rattle.aria_value.specs.Order.{key_columns}
@@ -9,14 +9,11 @@ use Rattle.aria_model.specs.declared.refusal.Refusal.TheVariants.{NoTable, NoKey
 use Rattle.aria_model.specs.declared.refusal.Exception.{Exception}
 use Rattle.aria_model.specs.declared.reply.Reply.TheVariants.{Count, No}
 use Rattle.aria_model.specs.declared.statement.Setting.{Setting}
-use Rattle.aria_model.specs.declared.statement.Statement.TheVariants.{Update}
 use Rattle.aria_model.specs.World.{World, Table, Content, Sound, Crashed, with_table}
 use Rattle.aria_model.specs.Step.{Outcome, refused, first_of, refused_where, bad_value, unless, spent, spent_for, Puts, key_number, bad_sought, concerned, by_key, with_content, too_many, unknown_column, bad_setting, set_all, inserted, update}
-use Rattle.aria_model.specs.Journal.{changes, concerns_some}
 use Rattle.aria_memory.specs.Performs.{Leaves}
 use Rattle.aria_memory.proofs.Worlds.{with_table_same}
 use Rattle.aria_memory.proofs.Outcomes.{sound, no_rows_unless, same_puts, inserted-rows}
-use Rattle.aria_model.proofs.Kept.{is_plain, HasNoPlain}
 
 -- ---- an update of a sound table
 
@@ -166,58 +163,3 @@ update_at-rows world name key sought settings exception (Some table) = update_co
 
 pub update-rows : (world : World) (name key : List ℕ) (sought : List Value) (settings : List Setting) (exception : Option Exception) → (update world name key sought settings exception).rows ≡ []
 update-rows world name key sought settings exception = update_at-rows world name key sought settings exception (world name)
-
--- ---- an update that concerns no rows, or is refused, leaves the world as it was
-
-abbrev Stays : World → Outcome → Type 0
-Stays world outcome = concerns_some outcome.reply ≡ false → outcome.world ≡ world
-
-unless_stays : (refusal : Option Refusal) (world : World) (outcome : Outcome) → Stays world outcome → Stays world (unless refusal world outcome)
-unless_stays None world outcome stays = stays
-unless_stays (Some why) world outcome stays = λ _. refl
-
-not_zero : (n : ℕ) → not (suc n == 0) ≡ true
-not_zero n = let other : (suc n == 0) ≡ false = ne_eqb (suc n) 0 (λ same. absurd (omega arith)) in ap not other
-
-inserted_stays : (world : World) (name : List ℕ) (table : Table) (count : ℕ) (rows : List (List Value)) (refusal : Option Refusal) → table.plain ≡ false
-    → Stays world (inserted world name table (suc count) (record { rows = rows; refusal = refusal }))
-inserted_stays world name table count rows None plain = λ h. absurd (cc (not_zero count))
-inserted_stays world name table count rows (Some why) plain = rw plain (λ _. refl)
-
-sound_again : (table : Table) (rows : List (List Value)) → table.content ≡ Sound rows → record table { content = Sound rows } ≡ table
-sound_again table rows is = λ i. record table { content = sym is i }
-
-set_stays : (world : World) (name : List ℕ) (table : Table) (settings : List Setting) (exception : Option Exception) (rows found : List (List Value)) → table.plain ≡ false
-    → world name ≡ Some table → table.content ≡ Sound rows → Stays world (inserted world name table (length found) (set_all table.definition settings exception 1 rows found))
-set_stays world name table settings exception rows [] plain has is =
-    λ _. ap (λ t. with_table world name (Some t)) (sound_again table rows is) ∙ with_table_same world name (Some table) has
-set_stays world name table settings exception rows (old ∷ more) plain has is =
-    let puts = set_all table.definition settings exception 1 rows (old ∷ more) in
-    inserted_stays world name table (length more) puts.rows puts.refusal plain
-
-keyed_by_stays : (world : World) (d : Definition) (key : List ℕ) (sought : List Value) (columns : Option Refusal) (later : ℕ → Option Refusal) (does : ℕ → Outcome) (number : Option ℕ)
-    → ((n : ℕ) → Stays world (does n)) → Stays world (keyed_by world d key sought columns later does number)
-keyed_by_stays world d key sought columns later does None stays = λ _. refl
-keyed_by_stays world d key sought columns later does (Some n) stays =
-    unless_stays (first_of (columns ∷ bad_value (bad_sought d.columns [] (key_columns d.keys n) sought) ∷ later n ∷ [])) world (does n) (stays n)
-
-update_content_stays : (world : World) (name key : List ℕ) (sought : List Value) (settings : List Setting) (exception : Option Exception) (table : Table) (content : Content)
-    → table.plain ≡ false → world name ≡ Some table → table.content ≡ content → Stays world (update_content world name key sought settings exception table content)
-update_content_stays world name key sought settings exception table Crashed plain has is = λ _. refl
-update_content_stays world name key sought settings exception table (Sound rows) plain has is =
-    keyed_by_stays world table.definition key sought (unknown_column table.definition.columns settings)
-    (λ number. first_of (bad_value (bad_setting table.definition settings) ∷ too_many (concerned table.definition number sought rows) ∷ spent_for table exception ∷ []))
-    (λ number. inserted world name table (length (concerned table.definition number sought rows))
-    (set_all table.definition settings exception 1 rows (concerned table.definition number sought rows)))
-    (key_number table.definition.keys key)
-    (λ n. set_stays world name table settings exception rows (concerned table.definition n sought rows) plain has is)
-
-update_at_stays : (world : World) (name key : List ℕ) (sought : List Value) (settings : List Setting) (exception : Option Exception) (found : Option Table)
-    → is_plain found ≡ false → world name ≡ found → Stays world (update_at world name key sought settings exception found)
-update_at_stays world name key sought settings exception None plain has = λ _. refl
-update_at_stays world name key sought settings exception (Some table) plain has =
-    update_content_stays world name key sought settings exception table table.content plain has refl
-
-pub update_kept : (world : World) (name key : List ℕ) (sought : List Value) (settings : List Setting) (exception : Option Exception) → HasNoPlain world
-    → changes (Update name key sought settings) (update world name key sought settings exception).reply ≡ false → (update world name key sought settings exception).world ≡ world
-update_kept world name key sought settings exception plain = update_at_stays world name key sought settings exception (world name) (plain name) refl

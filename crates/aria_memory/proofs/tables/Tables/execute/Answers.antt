@@ -11,12 +11,13 @@ use Rattle.aria_model.specs.declared.refusal.Exception.{Exception}
 use Rattle.aria_model.specs.declared.refusal.Exception.TheVariants.{Spent}
 use Rattle.aria_model.specs.declared.statement.Statement.TheVariants.{Create, Insert, Delete, Update, Drop, Flush}
 use Rattle.aria_model.specs.Step.{create, insert, delete, update}
+use Rattle.aria_model.proofs.Kept.{kept}
 use Rattle.aria_memory.specs.Worlds.{world_of}
 use Rattle.aria_memory.specs.Performs.{Leaves}
 use Rattle.aria_memory.proofs.Outcomes.{create-rows, insert-rows, drop-rows, flush-rows}
-use Rattle.aria_memory.proofs.Kept.{no_plain, create_kept, insert_kept, drop_kept}
-use Rattle.aria_memory.proofs.Seeking.{delete-rows, delete_kept}
-use Rattle.aria_memory.proofs.Updates.{update-rows, update_kept}
+use Rattle.aria_memory.proofs.Kept.{no_plain}
+use Rattle.aria_memory.proofs.Seeking.{delete-rows}
+use Rattle.aria_memory.proofs.Updates.{update-rows}
 use Rattle.aria_memory.proofs.Quiet.{tells_none, keeps_all}
 use Rattle.aria_memory.proofs.tables.Tables.execute.Goals as goal
 
@@ -47,7 +48,7 @@ returns-in-Create-clause-kept c = rw c.in-Create.is (
     let plain = c.in-Create.plain in
     let definition = c.in-Create.definition in
     IfOk-weaker c.create.result (Leaves (create old name plain definition spent) new) _
-    (λ reply leaves. keeps_all old new (Create name plain definition) spent reply (create_kept old name plain definition spent) leaves)
+    (λ reply leaves. keeps_all old new (Create name plain definition) spent reply (kept old (Create name plain definition) spent (no_plain c.args.self.now)) leaves)
     c.create.ensures.creates)
 
 pub returns-in-Insert-clause-performs : goal.returns-in-Insert-clause-performs
@@ -69,7 +70,7 @@ returns-in-Insert-clause-kept c = rw c.in-Insert.is (
     let name = c.in-Insert.name in
     let rows = c.in-Insert.rows in
     IfOk-weaker c.insert.result (Leaves (insert old name rows spent) new) _
-    (λ reply leaves. keeps_all old new (Insert name rows) spent reply (insert_kept old name rows spent (no_plain c.args.self.now)) leaves)
+    (λ reply leaves. keeps_all old new (Insert name rows) spent reply (kept old (Insert name rows) spent (no_plain c.args.self.now)) leaves)
     c.insert.ensures.inserts)
 
 pub returns-in-Delete-clause-performs : goal.returns-in-Delete-clause-performs
@@ -93,7 +94,7 @@ returns-in-Delete-clause-kept c = rw c.in-Delete.is (
     let key = c.in-Delete.key in
     let sought = c.in-Delete.values in
     IfOk-weaker c.delete.result (Leaves (delete old name key sought spent) new) _
-    (λ reply leaves. keeps_all old new (Delete name key sought) spent reply (delete_kept old name key sought spent) leaves)
+    (λ reply leaves. keeps_all old new (Delete name key sought) spent reply (kept old (Delete name key sought) spent (no_plain c.args.self.now)) leaves)
     (subst (λ (vs : List Value). IfOk c.delete.result (Leaves (delete old name key vs spent) new)) c.as_slice.ensures c.delete.ensures.deletes))
 
 pub returns-in-Update-clause-performs : goal.returns-in-Update-clause-performs
@@ -119,7 +120,7 @@ returns-in-Update-clause-kept c = rw c.in-Update.is (
     let values = c.in-Update.values in
     let settings = c.in-Update.set in
     IfOk-weaker c.update.result (Leaves (update old name key values settings spent) new) _
-    (λ reply leaves. keeps_all old new (Update name key values settings) spent reply (update_kept old name key values settings spent (no_plain c.args.self.now)) leaves)
+    (λ reply leaves. keeps_all old new (Update name key values settings) spent reply (kept old (Update name key values settings) spent (no_plain c.args.self.now)) leaves)
     (updated old name key values c.as_slice-in-Update.result.now settings c.as_slice-in-Update-2.result.now spent new c.update.result c.as_slice-in-Update.ensures c.as_slice-in-Update-2.ensures c.update.ensures))
 
 pub returns-in-Select-clause-performs : goal.returns-in-Select-clause-performs
@@ -134,7 +135,7 @@ returns-in-Drop c = rw c.in-Drop.is (
     let name = c.in-Drop.name in
     record {
       performs = tells_none old new (Drop name) spent c.args.text.now c.drop_table.result (drop-rows old name spent) c.drop_table.ensures;
-      kept = keeps_all old new (Drop name) spent c.drop_table.result (drop_kept old name spent) c.drop_table.ensures;
+      kept = keeps_all old new (Drop name) spent c.drop_table.result (kept old (Drop name) spent (no_plain c.args.self.now)) c.drop_table.ensures;
       err = tt;
     })
 
