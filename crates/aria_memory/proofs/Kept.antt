@@ -1,5 +1,5 @@
 -- Tables in memory are logged, all of them.
-use Rattle.std.specs.Prelude.{◌≡◌, ℕ, false, List, Option, Some, None, refl}
+use Rattle.std.specs.Prelude.{◌≡◌, false, Option, Some, None, refl}
 use Rattle.std.specs.Option.{option_map}
 use Rattle.std.specs.BTreeMap.{get}
 use Rattle.std.specs.Cmp.Lexicographic.{slice_cmp}
