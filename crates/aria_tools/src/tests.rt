@@ -169,11 +169,116 @@ no table t
                 .as_slice(),
             1,
         ),
+        (
+            b"create t trans id:int name:text(20) keys k1(id) k2(name)
+insert t (2,'b') (1,'a')
+select t k1
+insert t (3,'c') (4,'d') (1,'z')
+select t k1
+update t k1 (1) set name='q'
+delete t k2 ('b')
+delete t k1 (9)
+update t k9 set name=null
+update t k1 set foo=1
+select t k1
+drop t
+drop t
+"
+                .as_slice(),
+            b"ok
+ok 2
+row 1,'a'
+row 2,'b'
+ok 2
+no duplicate k1
+row 1,'a'
+row 2,'b'
+ok 2
+ok 1
+ok 1
+ok 0
+no key k9
+no column foo
+row 1,'q'
+ok 1
+ok
+no table t
+"
+                .as_slice(),
+            1,
+        ),
+        (
+            b"create n trans id:int a:text(5) keys k1(id) k2(a)
+insert n (3,'x') (1,'x') (2,null) (4,'')
+select n k2
+create z trans v:text(3) keys k1(v)
+insert z (x'610000') (x'61') (x'6100')
+select z k1
+"
+                .as_slice(),
+            b"ok
+ok 4
+row 2,null
+row 4,''
+row 1,'x'
+row 3,'x'
+ok 4
+ok
+ok 3
+row 'a'
+row x'6100'
+row x'610000'
+ok 3
+"
+                .as_slice(),
+            0,
+        ),
+        (
+            b"create m trans max_rows=2 id:int keys k1(id)
+insert m (1) (2)
+insert m (3)
+insert m (1)
+create s trans a:text(498) keys k(a)
+"
+                .as_slice(),
+            b"ok
+ok 2
+no rows full
+no duplicate k1
+ok
+"
+                .as_slice(),
+            1,
+        ),
     ] {
         let ran = run_script(rt.alloc(), script)?;
         assert_eq!(rt; ran.host.told(Stream::Out), told);
         assert_eq!(rt; ran.host.told(Stream::Err), b"".as_slice());
         assert_eq!(rt; ran.status, status);
+    }
+    Ok(())
+}
+
+// An insert of a row with a text of so many bytes.
+fn long_text(alloc: Global, bytes: usize) -> Result<Vec<u8>, AllocError> {
+    let mut line = Vec::new(alloc);
+    line.extend_from_slice(b"create b trans id:int v:text(65535) keys k1(id)\ninsert b (1,'")?;
+    for _ in 0..bytes {
+        line.push(b'x')?;
+    }
+    line.extend_from_slice(b"')")?;
+    Ok(line)
+}
+
+#[test]
+fn the_longest_row_is_put_and_a_longer_one_is_refused(rt: HostRuntime) -> Result<(), Fail> {
+    for (bytes, told) in [
+        (65_522, b"ok\nok 1\n".as_slice()),
+        (65_523, b"ok\nno row too long\n".as_slice()),
+    ] {
+        let script = long_text(rt.alloc(), bytes)?;
+        let ran = run_script(rt.alloc(), &script)?;
+        assert_eq!(rt; ran.host.told(Stream::Out), told);
     }
     Ok(())
 }
