@@ -38,7 +38,7 @@ done
 
 # Rows with texts and a second key, one statement each for all of them.
 for count in $small $large; do
-    rows "$count" | sed "s/,\(.*\))/,'text \1')/" | tr '\n' ' ' > texts
+    rows "$count" | sed "s/,\(.*\))/,'\1')/" | tr '\n' ' ' > texts
     create_texts='create t trans id:int v:text(20) keys k (id) l (v)'
     { echo "$create_texts"; printf 'insert t '; cat texts; echo; } > "texts.$count"
     { cat "texts.$count"; echo 'select t l'; } > "other.$count"
