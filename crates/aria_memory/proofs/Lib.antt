@@ -12,3 +12,4 @@ pub mod SetColumns
 pub mod KeyNumbers
 pub mod Updates
 pub mod Seeking
+pub mod LastSet

@@ -5,6 +5,7 @@ use Rattle.std.proofs.Common.{sym, ap, arith, get_or, drop-cons, add-one, ltb-fa
 use Rattle.std.proofs.lemmas.List.Quantifiers.{position-Some}
 use Rattle.aria_value.specs.declared.value.Value.{Value}
 use Rattle.aria_value.specs.declared.definition.Column.{Column}
+use Rattle.aria_value.specs.declared.definition.ColumnType.TheVariants.{Int}
 use Rattle.aria_value.specs.Defined.{same_name}
 use Rattle.aria_model.specs.declared.refusal.Refusal.TheVariants.{NoColumn}
 use Rattle.aria_model.specs.declared.statement.Setting.{Setting}
@@ -19,6 +20,10 @@ set_at (c ∷ cs) name v [] (suc i) d low here before = refl
 set_at (c ∷ cs) name v (old ∷ row) (suc i) d low here before =
     let first : same_name c.name name ≡ false = before 0 (omega arith) in
     rw first (ap (λ l. old ∷ l) (set_at cs name v row i d (omega arith) here (λ k h. before (suc k) (omega arith))))
+
+-- a column for where none is found
+pub no_column : Column
+no_column = record { name = []; kind = Int }
 
 -- the first column of the name is set
 pub set_found : (columns : List Column) (name : List ℕ) (v : Value) (row : List Value) (i : ℕ) (d : Column) → position (λ c. same_name c.name name) columns ≡ Some i

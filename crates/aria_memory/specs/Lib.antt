@@ -5,3 +5,4 @@ pub mod Worlds
 pub mod Performs
 pub mod Updated
 pub mod Seeking
+pub mod LastSet

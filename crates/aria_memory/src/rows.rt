@@ -42,22 +42,22 @@ fn value_at(alloc: Global, row: &[Value], column: u8) -> Result<Value, AllocErro
 pub(crate) fn copies(alloc: Global, values: &[Value]) -> Result<List<Value>, AllocError>
     ensures { IfOk result (λ copies. copies ≡ values.now) }
 {
-    let mut copies = List::new(alloc);
+    let mut copies = Vec::with_capacity(alloc, values.len())?;
     for value in values {
         copies.push(value.copy(alloc)?)?;
     }
-    Ok(copies)
+    Ok(List::from_vec(copies))
 }
 
 /// Copies of the values that a row has in some columns.
 pub(crate) fn key_of(alloc: Global, columns: &[u8], row: &[Value]) -> Result<RowKey, AllocError>
     ensures { IfOk result (λ key. key ≡ values_in columns.now row.now) }
 {
-    let mut values = List::new(alloc);
+    let mut values = Vec::with_capacity(alloc, columns.len())?;
     for column in columns {
         values.push(value_at(alloc, row, *column)?)?;
     }
-    Ok(RowKey::new(values))
+    Ok(RowKey::new(List::from_vec(values)))
 }
 
 /// Whether a column may hold the value. Null isn't allowed in a column of the first key.

@@ -1,12 +1,13 @@
 //! What an update makes of a row.
 
-ghost use Rattle.std.specs.Prelude.{◌≡◌, IfOk, map};
+ghost use Rattle.std.specs.Prelude.{◌≡◌, IfOk, map, None, replicate, slice_get};
 ghost use Rattle.std.specs.List.{list_any, position};
+ghost use Rattle.std.specs.Option.{option_map, unwrap_or};
 ghost use Rattle.aria_value.specs.Defined.{same_name};
-ghost use Rattle.aria_value.specs.Order.{key_columns};
-ghost use Rattle.aria_model.specs.Step.{unknown_column, may_set, bad_setting, set_one, set_row};
+ghost use Rattle.aria_model.specs.Step.{unknown_column, may_set, bad_setting};
+ghost use Rattle.aria_memory.specs.LastSet.{AreLastSet, with_set};
 
-use crate::rows::{copies, first_key_columns, is_among, may_hold};
+use crate::rows::{first_key_columns, is_among, may_hold};
 use aria_model::{Refusal, Setting};
 use aria_page::{List, Name};
 use aria_value::{Column, Definition, Row, Value};
@@ -64,33 +65,56 @@ pub(crate) fn bad_setting(definition: &Definition, settings: &[Setting]) -> Opti
     None
 }
 
-// Sets the value of the column of a name, if the row has one there.
-fn set_one(columns: &[Column], name: Name, value: Value, row: &mut [Value])
-    ensures { row.new ≡ set_one columns.now name value row.old }
+// Room for what so many columns are set to, with none set.
+fn none_set<'a>(alloc: Global, columns: usize) -> Result<Vec<Option<&'a Value>>, AllocError>
+    ensures { IfOk result (λ sets. sets.items ≡ replicate columns None) }
 {
-    match column_number(columns, name) {
-        None => {}
-        Some(nth) => {
-            if nth < row.len() {
-                row[nth] = value;
-            }
+    let mut sets = Vec::with_capacity(alloc, columns)?;
+    for _nth in 0..columns {
+        sets.push(None)?;
+    }
+    Ok(sets)
+}
+
+/// For each column the value that it is set to last, if it is set.
+pub(crate) fn last_set<'a>(
+    alloc: Global,
+    columns: &[Column],
+    settings: &'a [Setting],
+) -> Result<Vec<Option<&'a Value>>, AllocError>
+    ensures { IfOk result (λ sets. AreLastSet columns.now settings.now (map (option_map (λ v. v.now)) sets.items)) }
+{
+    let mut sets = none_set(alloc, columns.len())?;
+    for setting in settings {
+        match column_number(columns, setting.column) {
+            None => {}
+            Some(nth) => sets[nth] = Some(&setting.value),
         }
+    }
+    Ok(sets)
+}
+
+// What a column is set to, or else its old value.
+fn value_set<'a>(sets: &[Option<&'a Value>], nth: usize, old: &'a Value) -> &'a Value
+    ensures { result.now ≡ unwrap_or (unwrap_or (slice_get (map (option_map (λ v. v.now)) sets.now) nth) None) old.now }
+{
+    match sets.get(nth) {
+        Some(Some(value)) => value,
+        _ => old,
     }
 }
 
-/// A copy of a row with the settings made, one after another.
+/// A copy of a row with what its columns are set to.
 pub(crate) fn set_row(
     alloc: Global,
-    columns: &[Column],
-    settings: &[Setting],
+    sets: &[Option<&Value>],
     row: &[Value],
 ) -> Result<Row, AllocError>
-    ensures { IfOk result (λ set. set ≡ set_row columns.now settings.now row.now) }
+    ensures { IfOk result (λ set. set ≡ with_set (map (option_map (λ v. v.now)) sets.now) row.now) }
 {
-    let mut values = copies(alloc, row)?.into_vec();
-    for setting in settings {
-        let value = setting.value.copy(alloc)?;
-        set_one(columns, setting.column, value, values.as_mut_slice());
+    let mut values = Vec::with_capacity(alloc, row.len())?;
+    for (nth, old) in row.iter().enumerate() {
+        values.push(value_set(sets, nth, old).copy(alloc)?)?;
     }
     Ok(List::from_vec(values))
 }

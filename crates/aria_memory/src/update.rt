@@ -16,7 +16,7 @@ use crate::change::{Change, Done};
 use crate::find::{bad_sought, key_columns};
 use crate::row_key::RowKey;
 use crate::rows::{duplicate, first_key_columns, is_too_long, key_of};
-use crate::settings::{bad_setting, set_row, unknown_column};
+use crate::settings::{bad_setting, last_set, set_row, unknown_column};
 use aria_model::{Refusal, Setting};
 use aria_value::{Definition, Row, Value};
 use std::alloc::{AllocError, Global};
@@ -62,16 +62,12 @@ pub(crate) fn changes_of(
 ) -> Result<Vec<Change>, AllocError>
     ensures { IfOk result (λ changes. changes.items ≡ map (change_of definition.now settings.now) (map (λ r. r.now) found.now)) }
 {
+    let sets = last_set(alloc, definition.columns.as_slice(), settings)?;
     let mut changes = Vec::with_capacity(alloc, found.len())?;
     for row in found {
         let change = Change {
             key: key_of(alloc, first_key_columns(definition), row.as_slice())?,
-            row: set_row(
-                alloc,
-                definition.columns.as_slice(),
-                settings,
-                row.as_slice(),
-            )?,
+            row: set_row(alloc, sets.as_slice(), row.as_slice())?,
         };
         changes.push(change)?;
     }

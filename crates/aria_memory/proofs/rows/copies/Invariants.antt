@@ -3,4 +3,4 @@ use Rattle.aria_memory.proofs.rows.copies.Given as goal
 
 -- the values so far are copied
 abbrev pub invariant-loop-value : goal.invariant-loop-value
-invariant-loop-value l = l.copies ≡ take l.value-index l.values
+invariant-loop-value l = l.copies.items ≡ take l.value-index l.values

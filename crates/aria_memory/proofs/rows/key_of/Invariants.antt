@@ -4,4 +4,4 @@ use Rattle.aria_memory.proofs.rows.key_of.Given as goal
 
 -- the values so far are the row's in the columns so far
 abbrev pub invariant-loop-column : goal.invariant-loop-column
-invariant-loop-column l = l.values ≡ map (value_at l.row) (take l.column-index l.columns)
+invariant-loop-column l = l.values.items ≡ map (value_at l.row) (take l.column-index l.columns)

@@ -1,7 +1,9 @@
-use Rattle.std.proofs.Common.{◌≡◌, drop}
-use Rattle.aria_model.specs.Step.{set_row}
+use Rattle.std.proofs.Common.{◌≡◌, ◌++◌, drop}
+use Rattle.std.specs.Prelude.{map}
+use Rattle.std.specs.Option.{option_map}
+use Rattle.aria_memory.specs.LastSet.{with_set}
 use Rattle.aria_memory.proofs.settings.set_row.Given as goal
 
--- the settings to come make of the values so far what all of them make of the row
-abbrev pub invariant-loop-setting : goal.invariant-loop-setting
-invariant-loop-setting l = set_row l.columns (drop l.setting-index l.settings) l.values.items ≡ set_row l.columns l.settings l.row
+-- the values so far and those to come are the row with what its columns are set to
+abbrev pub invariant-loop-nth : goal.invariant-loop-nth
+invariant-loop-nth l = l.values.items ++ with_set (drop l.nth (map (option_map (λ v. v.now)) l.sets)) (drop l.nth l.row) ≡ with_set (map (option_map (λ v. v.now)) l.sets) l.row
