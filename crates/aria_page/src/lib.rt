@@ -34,7 +34,7 @@ pub use number::{
 };
 pub use page::{BODY_AT, BODY_BYTES, PAGE_BYTES, Page, SUM_BYTES};
 pub use place::{Part, Place, Places};
-pub use text::{bytes_at, name_at};
+pub use text::{bytes_at, bytes_from, name_at};
 
 #[cfg(test)]
 mod tests;

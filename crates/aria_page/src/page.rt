@@ -6,6 +6,7 @@ ghost use Rattle.aria_page.specs.Page.{with_bytes, zero_page, page_body, page_ls
 use crate::crc::checksum;
 use crate::lsn::{LSN_BYTES, Lsn, lsn_of};
 use crate::number::{u32_bytes, u32_of};
+use crate::text::bytes_from;
 use std::marker::Model;
 
 /// The size of a page, in bytes.
@@ -37,15 +38,6 @@ impl Model for Page {
     ghost view = { λ p. p.bytes };
 
     ghost inverse = { λ v. record { bytes = v } };
-}
-
-// The bytes from a place on.
-fn bytes_from(bytes: &[u8], at: usize) -> &[u8]
-    requires { at ≤ length bytes.now }
-    ensures value { result.now ≡ drop at bytes.now }
-    ensures len { length result.now + at ≡ length bytes.now }
-{
-    &bytes[at..]
 }
 
 // Whether all bytes are zero.

@@ -1,11 +1,20 @@
 //! Bytes and names as they are stored, read like the numbers.
 
-ghost use Rattle.std.specs.Prelude.{◌≡◌};
+ghost use Rattle.std.specs.Prelude.{◌≡◌, ◌+◌, ◌≤◌, length, drop};
 ghost use Rattle.aria_page.specs.Field.{Gives};
 ghost use Rattle.aria_page.specs.Text.{bytes_at, name_at};
 
 use crate::name::Name;
 use crate::number::u8_at;
+
+/// The bytes from a place on.
+pub fn bytes_from(bytes: &[u8], at: usize) -> &[u8]
+    requires { at ≤ length bytes.now }
+    ensures value { result.now ≡ drop at bytes.now }
+    ensures len { length result.now + at ≡ length bytes.now }
+{
+    &bytes[at..]
+}
 
 /// The first bytes, as many as are asked for, and the bytes after them; `None` where there are fewer.
 #[tactic(auto, unfolding(crate::specs::Text::bytes_at))]
