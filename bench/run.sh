@@ -36,6 +36,11 @@ for count in $small $large; do
     { echo "$create"; printf 'insert t '; rows "$count" | tr '\n' ' '; printf '\nselect t k\n'; } > "whole.$count"
 done
 
+# As many settings of one column in an update of all rows.
+for count in $small $large; do
+    { cat "whole.$count"; printf 'update t k set v=0'; seq -f ',v=%.0f' "$count" | tr -d '\n'; echo; } > "settings.$count"
+done
+
 # Rows with texts and a second key, one statement each for all of them.
 for count in $small $large; do
     rows "$count" | sed "s/,\(.*\))/,'\1')/" | tr '\n' ' ' > texts
@@ -128,6 +133,7 @@ sqlite=$(command -v sqlite3) || sqlite=
 for round in 1 2 3 4 5; do
     for kind in $small $large; do
         timed "whole.$kind" in_new_folder "whole.$kind"
+        timed "settings.$kind" in_new_folder "settings.$kind"
         for what in texts other update delete; do
             timed "$what.$kind" in_new_folder "$what.$kind"
         done
@@ -163,6 +169,7 @@ rate() {
 
 printf '%-44s %10s %10s %8s\n' 'milliseconds at' "$small" "$large" ratio
 line 'one insert of all, and a select' whole
+line 'the same, and an update with as many settings' settings
 line 'one insert of all, with texts and two keys' texts
 line 'the same, and a select by the second key' other
 line 'the same, and an update of all' update

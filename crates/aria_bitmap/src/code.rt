@@ -1,4 +1,4 @@
-ghost use Rattle.std.specs.Prelude.{◌≡◌, ◌<◌, ◌≤◌, length};
+ghost use Rattle.std.specs.Prelude.{◌≡◌, ◌<◌, length};
 ghost use Rattle.aria_page.specs.Page.{page_body};
 ghost use Rattle.aria_bitmap.specs.Code.{entry, all_used, room, head_code, tail_code, code};
 

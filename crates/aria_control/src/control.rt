@@ -1,13 +1,13 @@
 //! What the control file's page names, and how it is spelled.
 
-ghost use Rattle.std.specs.Prelude.{◌≡◌, ◌+◌, ◌≤◌, ◌↔◌, take, drop, length, IsTrue, IsSome};
+ghost use Rattle.std.specs.Prelude.{◌≡◌, ◌≤◌, ◌↔◌, take, length, IsTrue, IsSome};
 ghost use Rattle.aria_page.specs.Page.{Sums};
 ghost use Rattle.aria_host.specs.Folder.{Folder, with_page};
 ghost use Rattle.aria_control.specs.declared.found.Found.TheVariants.{Kept};
 ghost use Rattle.aria_control.specs.Found.{control_file, Finds};
 ghost use Rattle.aria_control.specs.ControlPage.{magic, control_page, named_by, HasMagic, IsStorable};
 
-use aria_page::{Lsn, Page, lsn_of};
+use aria_page::{Lsn, Page, bytes_from, lsn_of};
 
 /// What the control file names. Each log sequence number has a file number below 2^24.
 #[derive(Clone, Copy, Debug, PartialEq, Eq)]
@@ -25,15 +25,6 @@ const MAGIC_AT: usize = 4;
 const CHECKPOINT_AT: usize = 12;
 
 const REDO_AT: usize = 19;
-
-// The bytes from a place on.
-fn bytes_from(bytes: &[u8], at: usize) -> &[u8]
-    requires { at ≤ length bytes.now }
-    ensures value { result.now ≡ drop at bytes.now }
-    ensures len { length result.now + at ≡ length bytes.now }
-{
-    &bytes[at..]
-}
 
 // So many bytes from the front.
 fn front(bytes: &[u8], count: usize) -> &[u8]

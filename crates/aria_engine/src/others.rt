@@ -1,7 +1,6 @@
 //! The files of the folder other than the log's.
 
 ghost use Rattle.std.specs.Prelude.{◌≡◌, ◌∷◌, ◌++◌, ◌↔◌, [], List, Some, None, Option, true, false, IsTrue, IfOk, OnOk, MatchOption};
-ghost use Rattle.std.specs.Bool.{MatchBool};
 ghost use Rattle.std.specs.List.{All};
 ghost use Rattle.std.specs.declared.cmp.Ordering.TheVariants.{Less};
 ghost use Rattle.std.specs.Cmp.Lexicographic.{slice_cmp};

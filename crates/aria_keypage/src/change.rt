@@ -3,7 +3,7 @@
 ghost use Rattle.std.specs.Prelude.{◌≡◌, ℕ, ◌+◌, ◌<◌, ◌≤◌, ◌^◌, ◌++◌, List, length, drop, min, IsTrue, ◌↔◌, IfOk};
 ghost use Rattle.std.specs.List.{sum_by};
 ghost use Rattle.aria_page.specs.Number.{number};
-ghost use Rattle.aria_keypage.specs.Item.{Item, item_at, entry_before};
+ghost use Rattle.aria_keypage.specs.Item.{entry_before};
 ghost use Rattle.aria_keypage.specs.Packed.{shared, packed_item, packed};
 ghost use Rattle.aria_keypage.specs.Pieces.{first_packed, rest_packed};
 ghost use Rattle.aria_keypage.specs.Content.{width, item_bytes};
@@ -12,9 +12,9 @@ ghost use Rattle.aria_keypage.specs.Change.{Changes, edit_bytes, with_item, with
 use crate::find::{against, met_at};
 use crate::key_page::{KeyPage, width_of};
 use crate::order::common;
-use crate::raw::{bytes_from, raw_at};
+use crate::raw::raw_at;
 use crate::steps::{entry_from, skip};
-use aria_page::{Bytes, Edit, List, u16_bytes, u32_bytes, u40_bytes};
+use aria_page::{Bytes, Edit, List, bytes_from, u16_bytes, u32_bytes, u40_bytes};
 use std::alloc::{AllocError, Global};
 
 /// The most item bytes of a page.

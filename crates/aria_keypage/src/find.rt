@@ -7,7 +7,8 @@ ghost use Rattle.aria_keypage.specs.Item.{Item, entry_before, is_below, IsPlace}
 ghost use Rattle.aria_keypage.specs.Packed.{common, ArePacked, IsLeft};
 
 use crate::order::compare;
-use crate::raw::{Raw, bytes_from, raw_at};
+use crate::raw::{Raw, raw_at};
+use aria_page::bytes_from;
 use std::cmp::Ordering;
 
 // How many leading bytes an item's entry and the one that is sought have in common, and which comes first.

@@ -7,7 +7,7 @@ ghost use Rattle.aria_keypage.specs.Packed.{packed, ArePacked, IsLeft};
 ghost use Rattle.aria_keypage.specs.Content.{Content, width, first_bytes, item_bytes, IsContent};
 ghost use Rattle.aria_keypage.specs.Change.{Changes, IsBody, edit_bytes};
 ghost use Rattle.aria_keypage.specs.Reading.{content_of};
-ghost use Rattle.aria_keypage.specs.Halves.{holding, left_half, right_half, AreItems, IsMiddle, IsSplit};
+ghost use Rattle.aria_keypage.specs.Halves.{holding, right_half, AreItems, IsMiddle, IsSplit};
 ghost use Rattle.aria_keypage.specs.Pair.{joined};
 
 use crate::change::{patch, push_stored};

@@ -1,11 +1,11 @@
 //! Items as they are stored, apart from the entries before them.
 
-ghost use Rattle.std.specs.Prelude.{◌≡◌, ◌≤◌, ◌↔◌, length, drop, IsTrue};
+ghost use Rattle.std.specs.Prelude.{◌≡◌, ◌↔◌, IsTrue};
 ghost use Rattle.aria_page.specs.Field.{Gives};
 ghost use Rattle.aria_keypage.specs.Packed.{common};
 ghost use Rattle.aria_keypage.specs.Raw.{raw_at, IsStored};
 
-use aria_page::{bytes_at, u8_at, u16_at};
+use aria_page::{bytes_at, bytes_from, u8_at, u16_at};
 
 /// The longest entry, in bytes.
 pub const ENTRY_MAX: usize = 1000;
@@ -28,14 +28,6 @@ pub(crate) fn raw_at<'a>(bytes: &'a [u8], width: usize) -> Option<(Raw<'a>, &'a 
     let (rest, bytes) = bytes_at(bytes, len as usize)?;
     let (to, bytes) = bytes_at(bytes, width)?;
     Some((Raw { shared, rest, to }, bytes))
-}
-
-// The bytes from a place on.
-pub(crate) fn bytes_from(bytes: &[u8], at: usize) -> &[u8]
-    requires { at ≤ length bytes.now }
-    ensures { result.now ≡ drop at bytes.now }
-{
-    &bytes[at..]
 }
 
 // Whether the two have no leading byte in common.

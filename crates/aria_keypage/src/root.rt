@@ -1,8 +1,7 @@
 //! Whole bodies of new pages.
 
-ghost use Rattle.std.specs.Prelude.{◌≡◌, ◌≤◌, ◌<◌, ◌^◌, [], ◌∷◌, length, true, false, IfOk};
-ghost use Rattle.aria_keypage.specs.Item.{Item};
-ghost use Rattle.aria_keypage.specs.Content.{Content, kind, item_bytes, IsContent, Spells};
+ghost use Rattle.std.specs.Prelude.{◌≡◌, ◌≤◌, ◌<◌, ◌^◌, length, true, false, IfOk};
+ghost use Rattle.aria_keypage.specs.Content.{Content, kind, item_bytes, IsContent};
 ghost use Rattle.aria_keypage.specs.Change.{IsBody, leaf_of_one, node_of_one};
 
 use crate::change::push_item;

@@ -1,10 +1,9 @@
 //! Fills the pages of the log and writes them.
 
-ghost use Rattle.std.specs.Prelude.{◌≡◌, ◌≤◌, ◌<◌, ◌+◌, ◌-◌, ◌*◌, ◌^◌, ◌∷◌, ◌++◌, [], ℕ, Bool, List, false, true, min, take, length, IsTrue, IsSome, is_ok, OnOk, IfOk, MatchResult};
+ghost use Rattle.std.specs.Prelude.{◌≡◌, ◌≤◌, ◌<◌, ◌+◌, ◌-◌, ◌*◌, ◌^◌, ◌++◌, [], ℕ, Bool, List, false, true, min, take, length, IsTrue, IsSome, is_ok, OnOk, IfOk, MatchResult};
 ghost use Rattle.aria_host.specs.Calls.{HasDiskCause};
-ghost use Rattle.aria_log.specs.Frames.{IsFrame};
 ghost use Rattle.aria_log.specs.Runs.{begins_next};
-ghost use Rattle.aria_log.specs.Log.{log_file, place, Fills, IsAt, IsLog, IsWriting, Wrote, IsImage, Adds, LogMoments, LogKeeps};
+ghost use Rattle.aria_log.specs.Log.{log_file, place, Fills, IsAt, IsWriting, Wrote, IsImage, Adds, LogMoments};
 
 use crate::log::Log;
 use crate::log_page::{BODY_AT, BODY_BYTES, FILE, seal};

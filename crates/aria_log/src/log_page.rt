@@ -1,6 +1,6 @@
 //! How a page of the log is spelled.
 
-ghost use Rattle.std.specs.Prelude.{◌≡◌, ◌≤◌, ◌++◌, if◌then◌else◌, drop, length};
+ghost use Rattle.std.specs.Prelude.{◌≡◌, ◌++◌, if◌then◌else◌, drop};
 ghost use Rattle.aria_page.specs.Page.{Sums, with_sum};
 ghost use Rattle.aria_log.specs.LogPage.{log_head};
 

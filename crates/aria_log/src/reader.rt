@@ -1,6 +1,6 @@
 //! Collects the frames of the log, page after page.
 
-ghost use Rattle.std.specs.Prelude.{◌≡◌, ◌≤◌, ◌+◌, ◌*◌, ◌^◌, ◌++◌, ◌∷◌, [], suc, length, map, IfOk, OnOk, List as Seq, ℕ, false, ◌==◌, if◌then◌else◌};
+ghost use Rattle.std.specs.Prelude.{◌≡◌, ◌≤◌, ◌+◌, ◌^◌, ◌++◌, ◌∷◌, [], suc, length, map, IfOk, OnOk, List as Seq, ℕ, false, ◌==◌, if◌then◌else◌};
 ghost use Rattle.std.specs.Bool.{MatchBool};
 ghost use Rattle.aria_log.specs.Frames.{frames_in};
 ghost use Rattle.aria_log.specs.Front.{front};

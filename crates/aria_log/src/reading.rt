@@ -1,6 +1,6 @@
 //! Reads the pages of the log and the frames in them.
 
-ghost use Rattle.std.specs.Prelude.{◌≡◌, ◌≤◌, ◌<◌, ◌+◌, ◌*◌, ◌/◌, ◌^◌, ◌++◌, ◌↔◌, ◌&&◌, if◌then◌else◌, nat_le, None, length, map, IsTrue, OnOk, IfSome, List, ℕ};
+ghost use Rattle.std.specs.Prelude.{◌≡◌, ◌≤◌, ◌<◌, ◌+◌, ◌*◌, ◌/◌, ◌^◌, ◌++◌, ◌↔◌, ◌&&◌, if◌then◌else◌, nat_le, None, length, map, IsTrue, OnOk, IfSome, List};
 ghost use Rattle.aria_page.specs.Field.{Gives};
 ghost use Rattle.aria_page.specs.Text.{bytes_at};
 ghost use Rattle.aria_log.specs.Frames.{frame_at, frames_in};

@@ -1,6 +1,6 @@
 //! Opens the log: finds its end, and reads its frames.
 
-ghost use Rattle.std.specs.Prelude.{◌≡◌, ◌≤◌, ◌+◌, ◌*◌, ◌^◌, ◌++◌, [], length, map, drop, false, IfOk, IfErr, OnOk, IsTrue};
+ghost use Rattle.std.specs.Prelude.{◌≡◌, ◌≤◌, ◌+◌, ◌^◌, ◌++◌, [], length, map, drop, false, IfOk, OnOk, IsTrue};
 ghost use Rattle.std.specs.Option.{option_map_or};
 ghost use Rattle.aria_log.specs.LogPage.{read_log_page};
 ghost use Rattle.aria_host.specs.Calls.{HasDiskCause, HasDiskOrMemoryCause, Unchanged};

@@ -1,6 +1,6 @@
 //! Starts a log that was opened.
 
-ghost use Rattle.std.specs.Prelude.{◌≡◌, ℕ, List, length, IsTrue, OnOk, is_ok};
+ghost use Rattle.std.specs.Prelude.{◌≡◌, length, IsTrue, OnOk, is_ok};
 ghost use Rattle.aria_host.specs.Calls.{HasDiskCause};
 ghost use Rattle.aria_log.specs.Runs.{HoldsFrames};
 ghost use Rattle.aria_log.specs.Log.{IsLog, IsOpened, IsLogAtRest, LogMoments, HasPages, Prepared, log_of, place};

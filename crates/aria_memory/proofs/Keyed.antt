@@ -13,7 +13,6 @@ use Rattle.std.specs.Cmp.Lexicographic.{lists_total}
 use Rattle.std.proofs.lemmas.Map.Entries.{length-values_of}
 use Rattle.std.proofs.Common.{sym, ap, ◌∙◌, arith, get_or, drop-cons}
 use Rattle.std.proofs.lemmas.List.{drop_all}
-use Rattle.std.proofs.lemmas.List.Sums.{sum_by-drop_more}
 use Rattle.std.proofs.lemmas.Bool.{and_parts, leb-true}
 use Rattle.aria_value.specs.declared.value.Value.{Value}
 use Rattle.aria_value.specs.declared.value.Value.TheVariants.{Null}
@@ -23,7 +22,7 @@ use Rattle.aria_value.specs.declared.definition.Definition.{Definition}
 use Rattle.aria_value.specs.ValueOrder.{value_total}
 use Rattle.aria_value.specs.Defined.{is_definition}
 use Rattle.aria_value.specs.Order.{value_at, value_cmp, columns_cmp, key_columns, key_cmp, put, sorted}
-use Rattle.aria_value.specs.Stored.{value_length, row_length}
+use Rattle.aria_value.specs.Stored.{row_length}
 use Rattle.aria_value.proofs.Definitions.{definition_is}
 use Rattle.aria_model.specs.declared.refusal.Refusal.{Refusal}
 use Rattle.aria_model.specs.declared.refusal.Refusal.TheVariants.{RowTooLong, Duplicate, RowsFull}
@@ -97,10 +96,6 @@ none_here keyed nth last columns row c low past column =
 pub left_over : (keyed : List ℕ) (nth : ℕ) (last : List ℕ) (columns : List Column) (row : List Value) → length columns ≤ nth → nth < length row
     → bad_column keyed nth last (drop nth columns) (drop nth row) ≡ Some last
 left_over keyed nth last columns row past low = rw (drop_all nth columns past, drop-cons row nth Null) refl
-
--- the length of what is left of a row, one value on
-pub row_length_next : (row : List Value) (i : ℕ) (v : Value) → i < length row → v ≡ get_or row i v → row_length (drop i row) ≡ value_length v + row_length (drop (i + 1) row)
-row_length_next row i v low is = sum_by-drop_more value_length row i v low ∙ ap (λ x. value_length x + row_length (drop (i + 1) row)) (sym is)
 
 -- ---- rows put one after another
 

@@ -10,7 +10,7 @@ use Rattle.aria_value.specs.declared.value.Value.TheVariants.{Null}
 use Rattle.aria_value.specs.declared.definition.Key.{Key}
 use Rattle.aria_value.specs.declared.definition.Column.{Column}
 use Rattle.aria_value.specs.Defined.{same_name, kind_at}
-use Rattle.aria_value.specs.Order.{value_cmp, value_at, key_columns, has_values}
+use Rattle.aria_value.specs.Order.{value_cmp, value_at, has_values}
 use Rattle.aria_value.specs.Entry.{has_type}
 use Rattle.aria_model.specs.Step.{option_suc, key_number, name_at, bad_sought}
 use Rattle.aria_memory.specs.Keyed.{are_columns_of}
@@ -44,18 +44,6 @@ pub key_number_next : (keys : List Key) (wanted : List ℕ) (i : ℕ) (key : Key
 key_number_next keys wanted i key low is other =
     let rest = option_suc (key_number (drop (i + 1) keys) wanted) in
     ap (further i) (key_number_from keys wanted i key low is ∙ ap (λ b. cond b (Some 0) rest) other) ∙ further_suc i (key_number (drop (i + 1) keys) wanted)
-
--- the columns of a key by its number
-pub key_columns_at : (keys : List Key) (n : ℕ) (key : Key) → n < length keys → get_or keys n key ≡ key → key_columns keys n ≡ key.columns
-key_columns_at [] n key low is = absurd (omega arith)
-key_columns_at (k ∷ ks) zero key low is = ap (λ x. x.columns) is
-key_columns_at (k ∷ ks) (suc n) key low is = key_columns_at ks n key (omega arith) is
-
--- a number past the keys
-pub key_columns_past : (keys : List Key) (n : ℕ) → length keys ≤ n → key_columns keys n ≡ []
-key_columns_past [] n past = refl
-key_columns_past (k ∷ ks) zero past = absurd (omega arith)
-key_columns_past (k ∷ ks) (suc n) past = key_columns_past ks n (omega arith)
 
 -- ---- values that may be sought
 

@@ -12,10 +12,10 @@ ghost use Rattle.aria_memory.specs.Keyed.{values_cmp, values_in, are_keyed, are_
 ghost use Rattle.aria_memory.specs.Seeking.{seek_refusal};
 
 use crate::row_key::RowKey;
-use crate::rows::{first_key_columns, key_of};
+use crate::rows::key_of;
 use aria_model::Refusal;
 use aria_page::{List, Name};
-use aria_value::{Column, ColumnType, Definition, Key, Row, Value};
+use aria_value::{Column, ColumnType, Definition, Key, Row, Value, first_key_columns, key_columns};
 use std::alloc::{AllocError, Global};
 use std::collections::BTreeMap;
 
@@ -29,16 +29,6 @@ pub(crate) fn key_number(keys: &[Key], name: &Name) -> Option<usize>
         }
     }
     None
-}
-
-/// The columns of a key, and none where there is no such key.
-pub(crate) fn key_columns(keys: &[Key], number: usize) -> &[u8]
-    ensures { result.now ≡ key_columns keys.now number }
-{
-    match keys.get(number) {
-        Some(key) => key.columns.as_slice(),
-        None => &[],
-    }
 }
 
 // Whether a value may be sought in a column of this kind.

@@ -9,9 +9,9 @@ ghost use Rattle.aria_memory.specs.Keyed.{values_cmp, are_keyed};
 ghost use Rattle.aria_memory.specs.Undone.{undone};
 
 use crate::row_key::RowKey;
-use crate::rows::{first_key_columns, key_of, row_refusal};
+use crate::rows::{key_of, row_refusal};
 use aria_model::Refusal;
-use aria_value::{Definition, Row};
+use aria_value::{Definition, Row, first_key_columns};
 use std::alloc::{AllocError, Global};
 use std::collections::BTreeMap;
 

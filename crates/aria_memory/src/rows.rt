@@ -1,32 +1,19 @@
 //! One row against a table: its key, and its first refusal.
 
-ghost use Rattle.std.specs.Prelude.{◌≡◌, ◌==◌, ◌<◌, ◌+◌, [], nat_lt, length, IfOk, IsTrue, MatchOption};
-ghost use Rattle.std.specs.List.{list_any};
+ghost use Rattle.std.specs.Prelude.{◌≡◌, ◌<◌, [], length, IfOk, IsTrue};
 ghost use Rattle.std.specs.BTreeMap.{values};
 ghost use Rattle.aria_value.specs.Defined.{is_definition};
 ghost use Rattle.aria_value.specs.Order.{value_at, key_columns};
-ghost use Rattle.aria_value.specs.Stored.{value_length, row_length};
 ghost use Rattle.aria_model.specs.declared.refusal.Refusal.TheVariants.{Duplicate};
-ghost use Rattle.aria_value.specs.Rows.{may_hold};
 ghost use Rattle.aria_model.specs.Step.{bad_column, first_key_name, row_refusal};
 ghost use Rattle.aria_memory.specs.Keyed.{values_in, are_keyed};
 
 use crate::row_key::RowKey;
 use aria_model::Refusal;
 use aria_page::{List, Name};
-use aria_value::{Column, ColumnType, Definition, MAX_ROW_BYTES, Row, Value};
+use aria_value::{Column, Definition, Row, Value, first_key_columns, is_too_long, may_hold};
 use std::alloc::{AllocError, Global};
 use std::collections::BTreeMap;
-
-/// The columns of the first key.
-pub(crate) fn first_key_columns(definition: &Definition) -> &[u8]
-    ensures { result.now ≡ key_columns definition.now.keys 0 }
-{
-    match definition.keys.as_slice() {
-        [key, ..] => key.columns.as_slice(),
-        [] => &[],
-    }
-}
 
 // A copy of the value that a row has in a column.
 fn value_at(alloc: Global, row: &[Value], column: u8) -> Result<Value, AllocError>
@@ -60,26 +47,6 @@ pub(crate) fn key_of(alloc: Global, columns: &[u8], row: &[Value]) -> Result<Row
     Ok(RowKey::new(List::from_vec(values)))
 }
 
-/// Whether a column may hold the value. Null isn't allowed in a column of the first key.
-pub(crate) fn may_hold(keyed: bool, kind: ColumnType, value: &Value) -> bool
-    ensures { result ≡ may_hold keyed kind value.now }
-{
-    match (kind, value) {
-        (_, Value::Null) => !keyed,
-        (ColumnType::Int, Value::Int(_)) => true,
-        (ColumnType::Int, Value::Text(_)) => false,
-        (ColumnType::Text(_), Value::Int(_)) => false,
-        (ColumnType::Text(limit), Value::Text(bytes)) => bytes.len() <= limit as usize,
-    }
-}
-
-/// Whether a column is one of these.
-pub(crate) fn is_among(columns: &[u8], nth: usize) -> bool
-    ensures { result ≡ list_any (λ k. k == nth) columns.now }
-{
-    columns.iter().any(|k| *k as usize == nth)
-}
-
 // The first column that may not hold its value or has none, and the last where values are left.
 fn bad_column(columns: &[Column], keyed: &[u8], row: &[Value]) -> Option<Name>
     requires { 0 < length columns.now }
@@ -90,7 +57,7 @@ fn bad_column(columns: &[Column], keyed: &[u8], row: &[Value]) -> Option<Name>
         match row.get(nth) {
             None => return Some(column.name),
             Some(value) => {
-                if !may_hold(is_among(keyed, nth), column.kind, value) {
+                if !may_hold(keyed, nth, column.kind, value) {
                     return Some(column.name);
                 }
             }
@@ -102,31 +69,6 @@ fn bad_column(columns: &[Column], keyed: &[u8], row: &[Value]) -> Option<Name>
     } else {
         None
     }
-}
-
-// What is left of so many bytes behind a stored value, if it fits them.
-fn room_behind(room: usize, value: &Value) -> Option<usize>
-    ensures { MatchOption result (room < value_length value.now) (λ left. left + value_length value.now ≡ room) }
-{
-    match value {
-        Value::Null => room.checked_sub(1),
-        Value::Int(_) => room.checked_sub(9),
-        Value::Text(bytes) => room.checked_sub(5)?.checked_sub(bytes.len()),
-    }
-}
-
-/// Whether a row is longer, as it is stored, than a table may hold.
-pub(crate) fn is_too_long(row: &[Value]) -> bool
-    ensures { result ≡ nat_lt 65536 (row_length row.now) }
-{
-    let mut room = MAX_ROW_BYTES as usize;
-    for value in row {
-        match room_behind(room, value) {
-            None => return true,
-            Some(left) => room = left,
-        }
-    }
-    false
 }
 
 /// The refusal of a row whose key is among the table's.

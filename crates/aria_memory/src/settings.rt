@@ -7,10 +7,9 @@ ghost use Rattle.aria_value.specs.Defined.{same_name};
 ghost use Rattle.aria_model.specs.Step.{unknown_column, may_set, bad_setting};
 ghost use Rattle.aria_memory.specs.LastSet.{AreLastSet, with_set};
 
-use crate::rows::{first_key_columns, is_among, may_hold};
 use aria_model::{Refusal, Setting};
 use aria_page::{List, Name};
-use aria_value::{Column, Definition, Row, Value};
+use aria_value::{Column, Definition, Row, Value, first_key_columns, may_hold};
 use std::alloc::{AllocError, Global};
 
 // The number of the column of a name.
@@ -45,7 +44,7 @@ fn may_set(columns: &[Column], keyed: &[u8], name: Name, value: &Value) -> bool
 {
     for (nth, column) in columns.iter().enumerate() {
         if column.name == name {
-            return may_hold(is_among(keyed, nth), column.kind, value);
+            return may_hold(keyed, nth, column.kind, value);
         }
     }
     true

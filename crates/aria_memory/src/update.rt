@@ -13,12 +13,12 @@ ghost use Rattle.aria_memory.specs.Keyed.{values_cmp, values_in, are_keyed};
 ghost use Rattle.aria_memory.specs.Updated.{change_of, IsSet, IsUpdated, put_back, taken_back};
 
 use crate::change::{Change, Done};
-use crate::find::{bad_sought, key_columns};
+use crate::find::bad_sought;
 use crate::row_key::RowKey;
-use crate::rows::{duplicate, first_key_columns, is_too_long, key_of};
+use crate::rows::{duplicate, key_of};
 use crate::settings::{bad_setting, last_set, set_row, unknown_column};
 use aria_model::{Refusal, Setting};
-use aria_value::{Definition, Row, Value};
+use aria_value::{Definition, Row, Value, first_key_columns, is_too_long, key_columns};
 use std::alloc::{AllocError, Global};
 use std::collections::BTreeMap;
 

@@ -1,6 +1,6 @@
 //! The tokens of a line, one after another.
 
-ghost use Rattle.std.specs.Prelude.{◌≡◌, ◌+◌, ◌≤◌, ◌∷◌, length, drop, IsTrue};
+ghost use Rattle.std.specs.Prelude.{◌≡◌, ◌+◌, ◌∷◌, length, drop, IsTrue};
 ghost use Rattle.std.specs.List.{prefix_len, take_while, list_all};
 ghost use Rattle.aria_page.specs.Word.{begins_word, continues_word, begins_as_word};
 ghost use Rattle.aria_model.specs.Token.{is_blank, is_digit, is_sign, word_of as word_spelled, negative_of as negative_spelled, quoted_of as quoted_spelled, text_rest, hex_rest, token_at as token_spelled, tokens};

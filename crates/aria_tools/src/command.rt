@@ -1,6 +1,6 @@
 //! The command line as a call.
 
-ghost use Rattle.std.specs.Prelude.{◌≡◌, ◌≢◌, ◌⊎◌, ◌↔◌, ◌+◌, ◌^◌, ◌≤◌, ◌++◌, ℕ, List, [], All, length, take, IsTrue, IfOk};
+ghost use Rattle.std.specs.Prelude.{◌≡◌, ◌≢◌, ◌⊎◌, ◌↔◌, ◌+◌, ◌^◌, ◌≤◌, ◌++◌, ℕ, List, [], All, length, take, IsTrue};
 ghost use Rattle.aria_host.specs.Count.{Rose};
 ghost use Rattle.aria_host.specs.Folder.{page_count};
 ghost use Rattle.aria_host.specs.State.{LeavesOnly};

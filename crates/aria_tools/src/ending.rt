@@ -1,10 +1,10 @@
 //! Ends a run: the status, and the line on standard error.
 
-ghost use Rattle.std.specs.Prelude.{◌≡◌, ◌≢◌, ◌≤◌, List, ℕ, IsTrue, IfOk, OnErr, Err, Ok, false, true};
-ghost use Rattle.std.specs.Prelude.{MatchOption, None, Some};
+ghost use Rattle.std.specs.Prelude.{◌≡◌, ◌≤◌, List, ℕ, IsTrue, IfOk, OnErr, Err, Ok, false, true};
+ghost use Rattle.std.specs.Prelude.{None, Some};
 ghost use Rattle.std.specs.Option.{option_map};
 ghost use Rattle.aria_host.specs.declared.fault.Fault.TheVariants as faults;
-ghost use Rattle.aria_tools.specs.Endings.{IsEnd, IsEndText, TellsErr, TellsText, status_text, status_of_run};
+ghost use Rattle.aria_tools.specs.Endings.{IsEnd, IsEndText, TellsErr, TellsText, status_text};
 ghost use Rattle.aria_tools.specs.Stops.{damage_of, damage_text, status_of};
 
 use crate::stop::Stop;

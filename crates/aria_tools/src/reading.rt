@@ -1,7 +1,6 @@
 //! Reads a script in pieces and runs it.
 
-ghost use Rattle.std.specs.Prelude.{◌≡◌, ◌↔◌, ◌+◌, ◌-◌, ◌^◌, ◌<◌, ◌≤◌, min, ℕ, [], ◌∷◌, ◌++◌, List, false, length, take, All, IsTrue, IfOk, IfErr, OnOk, OnErr};
-ghost use Rattle.aria_host.specs.Count.{Rose};
+ghost use Rattle.std.specs.Prelude.{◌≡◌, ◌+◌, ◌-◌, ◌^◌, ◌<◌, ◌≤◌, min, ℕ, [], List, false, length, All, IsTrue, IfOk, IfErr, OnOk, OnErr};
 ghost use Rattle.aria_host.specs.Folder.{page_count};
 ghost use Rattle.aria_log.specs.Log.{log_file};
 ghost use Rattle.aria_model.specs.World.{World};
@@ -11,7 +10,7 @@ ghost use Rattle.aria_engine.specs.Holds.{EachHolds};
 ghost use Rattle.aria_engine.specs.Store.{NoFewerFaults, SameFaults, IsFresh};
 ghost use Rattle.aria_engine.specs.Done.{DoesPart, IsFull};
 ghost use Rattle.aria_tools.specs.Endings.{Ends, Runs, Took, WasSound};
-ghost use Rattle.aria_tools.specs.Held.{clipped, Splits};
+ghost use Rattle.aria_tools.specs.Held.{clipped};
 ghost use Rattle.aria_tools.specs.Pieces.{Fed, IsReady, TakesPiece, NoPiece, supply};
 ghost use Rattle.aria_tools.specs.Sessions.{LineStops, RunsOn, RunsFrom};
 

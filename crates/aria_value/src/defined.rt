@@ -146,14 +146,21 @@ fn room_behind_all(limit: usize, columns: &[Column], numbers: &[u8]) -> Option<u
     Some(room)
 }
 
-// The columns of a key.
-pub(crate) fn columns_of(keys: &[Key], key: usize) -> &[u8]
-    ensures { result.now ≡ key_columns keys.now key }
+/// The numbers of the columns of a key, and none where there is no such key.
+pub fn key_columns(keys: &[Key], number: usize) -> &[u8]
+    ensures { result.now ≡ key_columns keys.now number }
 {
-    match keys.get(key) {
+    match keys.get(number) {
         Some(key) => key.columns.as_slice(),
         None => &[],
     }
+}
+
+/// The numbers of the columns of the first key.
+pub fn first_key_columns(definition: &Definition) -> &[u8]
+    ensures { result.now ≡ key_columns definition.now.keys 0 }
+{
+    key_columns(definition.keys.as_slice(), 0)
 }
 
 // What is left of so many bytes behind the longest parts of a key's own columns, if they fit.
@@ -161,7 +168,7 @@ fn room_behind_key(limit: usize, definition: &Definition, key: usize) -> Option<
     ensures { MatchOption result (limit < longest_parts definition.now key) (λ left. left + longest_parts definition.now key ≡ limit) }
 {
     let columns = definition.columns.as_slice();
-    room_behind_all(limit, columns, columns_of(definition.keys.as_slice(), key))
+    room_behind_all(limit, columns, key_columns(definition.keys.as_slice(), key))
 }
 
 // Whether the longest entry of a key is short enough.

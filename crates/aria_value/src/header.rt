@@ -1,6 +1,6 @@
 //! The first pages of a table's two files (docs/FORMATS.md, "The header of an index file").
 
-ghost use Rattle.std.specs.Prelude.{◌≡◌, ◌+◌, ◌-◌, ◌≤◌, ◌<◌, ◌⊎◌, ◌++◌, length, drop, replicate, OnOk, IfOk, IfSome, if◌then◌else◌};
+ghost use Rattle.std.specs.Prelude.{◌≡◌, ◌+◌, ◌-◌, ◌≤◌, ◌<◌, ◌⊎◌, ◌++◌, length, replicate, OnOk, IfOk, IfSome, if◌then◌else◌};
 ghost use Rattle.aria_page.specs.Number.{number};
 ghost use Rattle.aria_page.specs.Lsn.{IsLsn};
 ghost use Rattle.aria_page.specs.Page.{Sums, IsSound, page_body, page_lsn};
@@ -10,7 +10,8 @@ ghost use Rattle.aria_value.specs.Header.{begins_header, definition_in, roots_in
 use crate::definition::Definition;
 use crate::stored::{decode_definition, encode_definition};
 use aria_page::{
-    BODY_AT, Bytes, List, Lsn, Page, bytes_at, lsn_of, u16_bytes, u16_of, u32_of, u40_of,
+    BODY_AT, Bytes, List, Lsn, Page, bytes_at, bytes_from, lsn_of, u16_bytes, u16_of, u32_of,
+    u40_of,
 };
 use std::alloc::{AllocError, Global};
 
@@ -38,15 +39,6 @@ pub struct Header {
 
 // The kind of the page, and the magic.
 const FRONT: [u8; 9] = *b"\x01ARIAOWN1";
-
-// The bytes from a place on.
-fn bytes_from(bytes: &[u8], at: usize) -> &[u8]
-    requires { at ≤ length bytes.now }
-    ensures value { result.now ≡ drop at bytes.now }
-    ensures len { length result.now + at ≡ length bytes.now }
-{
-    &bytes[at..]
-}
 
 // Whether bytes 0 to 11 are those of a header.
 #[tactic(auto, unfolding(crate::specs::Header::begins_header))]

@@ -1,6 +1,6 @@
 //! Rows as tables keep them (docs/FORMATS.md, "Kept rows").
 
-ghost use Rattle.std.specs.Prelude.{◌≡◌, ◌<◌, ◌^◌, ◌++◌, List as Seq, All, OnOk, IfOk, IfSome};
+ghost use Rattle.std.specs.Prelude.{◌≡◌, ◌<◌, ◌^◌, List as Seq, All, OnOk, IfOk, IfSome};
 ghost use Rattle.aria_page.specs.Field.{Gives};
 ghost use Rattle.aria_value.specs.declared.value.Value.{Value as AnyValue};
 ghost use Rattle.aria_value.specs.Stored.{text_length};

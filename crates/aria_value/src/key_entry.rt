@@ -10,7 +10,7 @@ ghost use Rattle.aria_value.specs.Rows.{Fits, IsRow};
 ghost use Rattle.aria_value.specs.Defined.{IsDefinition};
 ghost use Rattle.aria_value.specs.Entry.{raised, escaped, part, parts, entry_bytes, prefix_bytes, have_types};
 
-use crate::defined::columns_of;
+use crate::defined::key_columns;
 use crate::definition::Definition;
 use crate::value::{Row, Value};
 use aria_page::{Bytes, List, u64_bytes};
@@ -87,9 +87,9 @@ fn entry_of(
 {
     let keys = definition.keys.as_slice();
     let mut out = List::new(alloc);
-    push_parts(&mut out, row.as_slice(), columns_of(keys, key))?;
+    push_parts(&mut out, row.as_slice(), key_columns(keys, key))?;
     if key != 0 {
-        push_parts(&mut out, row.as_slice(), columns_of(keys, 0))?;
+        push_parts(&mut out, row.as_slice(), key_columns(keys, 0))?;
     }
     Ok(out)
 }

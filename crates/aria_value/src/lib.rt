@@ -26,7 +26,7 @@ mod row_of;
 mod stored;
 mod value;
 
-pub use defined::{are_keys, entries_fit};
+pub use defined::{are_keys, entries_fit, first_key_columns, key_columns};
 pub use definition::{
     Column, ColumnType, Definition, Key, MAX_COLUMNS, MAX_ENTRY_BYTES, MAX_KEYS, MAX_ROWS,
     MAX_TEXT_BYTES,
@@ -35,6 +35,7 @@ pub use header::{Header, first_pages, read_header};
 pub use kept::{keep_row, read_kept};
 pub use key_entry::{entry, prefix};
 pub use row::{decode_row, encode_row};
+pub use row_of::{is_too_long, may_hold};
 pub use stored::{decode_definition, encode_definition};
 pub use value::{MAX_ROW_BYTES, Row, Value};
 

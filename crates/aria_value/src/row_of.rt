@@ -1,16 +1,17 @@
 //! Which rows a definition has.
 
-ghost use Rattle.std.specs.Prelude.{◌≡◌, ◌+◌, ◌<◌, nat_le, MatchOption};
+ghost use Rattle.std.specs.Prelude.{◌≡◌, ◌+◌, ◌<◌, nat_lt, MatchOption};
 ghost use Rattle.std.specs.List.{list_any};
 ghost use Rattle.std.specs.Prelude.{◌==◌};
-ghost use Rattle.aria_value.specs.Order.{key_columns};
 ghost use Rattle.aria_value.specs.Stored.{value_length, row_length};
 ghost use Rattle.aria_value.specs.Rows.{may_hold, may_hold_all, is_row};
 
+use crate::defined::first_key_columns;
 use crate::definition::{Column, ColumnType, Definition};
 use crate::value::{MAX_ROW_BYTES, Value};
 
-fn may_hold(keyed: bool, kind: ColumnType, value: &Value) -> bool
+// Null isn't allowed in a column of the first key.
+fn holds(keyed: bool, kind: ColumnType, value: &Value) -> bool
     ensures { result ≡ may_hold keyed kind value.now }
 {
     match (kind, value) {
@@ -22,20 +23,18 @@ fn may_hold(keyed: bool, kind: ColumnType, value: &Value) -> bool
     }
 }
 
-// The columns of the first key.
-fn keyed_columns(definition: &Definition) -> &[u8]
-    ensures { result.now ≡ key_columns definition.now.keys 0 }
-{
-    match definition.keys.as_slice() {
-        [key, ..] => key.columns.as_slice(),
-        [] => &[],
-    }
-}
-
 fn is_among(columns: &[u8], nth: usize) -> bool
     ensures { result ≡ list_any (λ k. k == nth) columns.now }
 {
     columns.iter().any(|column| *column as usize == nth)
+}
+
+/// Whether the column of this number, of this kind, may hold the value in a table whose first key has the columns
+/// `first_key`.
+pub fn may_hold(first_key: &[u8], nth: usize, kind: ColumnType, value: &Value) -> bool
+    ensures { result ≡ may_hold (list_any (λ k. k == nth) first_key.now) kind value.now }
+{
+    holds(is_among(first_key, nth), kind, value)
 }
 
 #[tactic(auto, using(crate::proofs::RowOf::holds_none))]
@@ -46,7 +45,7 @@ fn may_hold_all(keyed: &[u8], columns: &[Column], row: &[Value]) -> bool
         return false;
     }
     for (nth, column) in columns.iter().enumerate() {
-        if !may_hold(is_among(keyed, nth), column.kind, &row[nth]) {
+        if !may_hold(keyed, nth, column.kind, &row[nth]) {
             return false;
         }
     }
@@ -64,17 +63,18 @@ fn room_behind(room: usize, value: &Value) -> Option<usize>
     }
 }
 
-fn is_short(row: &[Value]) -> bool
-    ensures { result ≡ nat_le (row_length row.now) 65536 }
+/// Whether a row is longer, as it is stored, than a table may hold.
+pub fn is_too_long(row: &[Value]) -> bool
+    ensures { result ≡ nat_lt 65536 (row_length row.now) }
 {
     let mut room = MAX_ROW_BYTES as usize;
     for value in row {
         match room_behind(room, value) {
-            None => return false,
+            None => return true,
             Some(left) => room = left,
         }
     }
-    true
+    false
 }
 
 /// Whether the values are a row of the definition.
@@ -82,8 +82,8 @@ pub(crate) fn is_row(definition: &Definition, row: &[Value]) -> bool
     ensures { result ≡ is_row definition.now row.now }
 {
     may_hold_all(
-        keyed_columns(definition),
+        first_key_columns(definition),
         definition.columns.as_slice(),
         row,
-    ) && is_short(row)
+    ) && !is_too_long(row)
 }

@@ -9,4 +9,4 @@ bytes_from-rest-requires c = omega (arith, c.shared_of-shared.ensures, (shared-l
 pub returns : goal.returns
 returns c w n et =
     pushed-item w n c.shared_of-shared.result c.args.out.now.items c.args.before.now c.args.entry.now c.bytes_from-rest.result.now c.args.to.now _ _ _ _ c.u16_bytes.result
-    c.shared_of-shared.ensures c.bytes_from-rest.ensures et c.u16_bytes.ensures c.in_ok-push.ensures.items c.in_ok-extend_from_slice.ensures.items c.in_ok-extend_from_slice-2.ensures.items c.in_ok-extend_from_slice-3.ensures.items
+    c.shared_of-shared.ensures c.bytes_from-rest.ensures.value et c.u16_bytes.ensures c.in_ok-push.ensures.items c.in_ok-extend_from_slice.ensures.items c.in_ok-extend_from_slice-2.ensures.items c.in_ok-extend_from_slice-3.ensures.items

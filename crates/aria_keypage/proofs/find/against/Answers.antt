@@ -15,19 +15,19 @@ returns-then-shared-met-clause-order c before there e below shares rest =
 pub overflow_add-result : goal.overflow_add-result
 overflow_add-result c =
     let most = (common-le c.args.raw.now.rest.now c.bytes_from.result.now).1 in
-    omega (arith, most, c.compare-same.ensures.common, ap length c.bytes_from.ensures, length-drop c.args.raw.now.shared c.args.entry.now)
+    omega (arith, most, c.compare-same.ensures.common, ap length c.bytes_from.ensures.value, length-drop c.args.raw.now.shared c.args.entry.now)
 
 pub returns-clause-within : goal.returns-clause-within
 returns-clause-within c =
     let most = (common-le c.args.raw.now.rest.now c.bytes_from.result.now).1 in
-    omega (arith, most, c.compare-same.ensures.common, ap length c.bytes_from.ensures, length-drop c.args.raw.now.shared c.args.entry.now)
+    omega (arith, most, c.compare-same.ensures.common, ap length c.bytes_from.ensures.value, length-drop c.args.raw.now.shared c.args.entry.now)
 
 pub returns-clause-common : goal.returns-clause-common
 returns-clause-common c before there e shares rest =
     ap (λ (k : ℕ). c.args.raw.now.shared + k) c.compare-same.ensures.common
-    ∙ (against-rest before there c.args.entry.now c.args.raw.now.rest.now c.bytes_from.result.now c.args.met c.args.raw.now.shared e c.if-shared-met.false shares rest c.bytes_from.ensures).0
+    ∙ (against-rest before there c.args.entry.now c.args.raw.now.rest.now c.bytes_from.result.now c.args.met c.args.raw.now.shared e c.if-shared-met.false shares rest c.bytes_from.ensures.value).0
 
 pub returns-clause-order : goal.returns-clause-order
 returns-clause-order c before there e below shares rest =
     c.compare-same.ensures.order
-    ∙ (against-rest before there c.args.entry.now c.args.raw.now.rest.now c.bytes_from.result.now c.args.met c.args.raw.now.shared e c.if-shared-met.false shares rest c.bytes_from.ensures).1
+    ∙ (against-rest before there c.args.entry.now c.args.raw.now.rest.now c.bytes_from.result.now c.args.met c.args.raw.now.shared e c.if-shared-met.false shares rest c.bytes_from.ensures.value).1

@@ -17,5 +17,5 @@ pub returns : goal.returns
 returns c =
     let r : Raw = record { shared = c.args.raw.now.shared; rest = c.args.raw.now.rest.now; to = c.args.raw.now.to.now } in
     let both = stored-part c.args.before.now r c.if-shared-before.false c.if-shared-raw-gt-ENTRY_MAX.false (omega arith) (λ e. absurd (omega arith)) in
-    let tail = ap (λ (l : List ℕ). common l c.args.raw.now.rest.now) c.bytes_from.ensures in
+    let tail = ap (λ (l : List ℕ). common l c.args.raw.now.rest.now) c.bytes_from.ensures.value in
     ((λ t. both.0 (sym tail ∙ c.differ.ensures.0 t)), (λ is. c.differ.ensures.1 (tail ∙ both.1 is)))

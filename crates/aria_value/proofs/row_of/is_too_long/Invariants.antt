@@ -1,6 +1,6 @@
 use Rattle.std.proofs.Common.{◌≡◌, ◌+◌, drop}
 use Rattle.aria_value.specs.Stored.{row_length}
-use Rattle.aria_value.proofs.row_of.is_short.Given as goal
+use Rattle.aria_value.proofs.row_of.is_too_long.Given as goal
 
 -- the room is what the values so far leave of 65536 bytes
 abbrev pub invariant-loop-value : goal.invariant-loop-value
