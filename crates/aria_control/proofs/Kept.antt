@@ -1,6 +1,6 @@
 -- What stands in the control file, before and after its page is put.
-use Rattle.std.proofs.Common.{◌≡◌, inl, inr, ℕ, ◌-◌, Option, None, Some, List, [], ◌∷◌, ◌++◌, length, drop, take, replicate, refl, sym, ◌∙◌, ap, subst, arith, rules}
-use Rattle.std.specs.Prelude.{IsTrue, Result, Ok, Err, is_ok, OnOk, IsSome, slice_get, option_and_then}
+use Rattle.std.proofs.Common.{◌≡◌, inl, inr, ℕ, ◌-◌, Option, None, Some, List, [], ◌∷◌, ◌++◌, length, drop, take, replicate, sym, ◌∙◌, ap, subst, arith, rules}
+use Rattle.std.specs.Prelude.{IsSome, slice_get, option_and_then}
 use Rattle.std.specs.Option.{option_map}
 use Rattle.std.proofs.lemmas.Option.{same_Some}
 use Rattle.aria_page.specs.Page.{zero_page, Sums}
@@ -13,11 +13,6 @@ use Rattle.aria_control.specs.ControlPage.{control_page, named_by, HasMagic, IsS
 use Rattle.aria_control.specs.Found.{control_file, Begins, BeginsWith, IsBlank, Finds}
 use Rattle.aria_control.specs.Written.{Keeps}
 use Rattle.aria_control.proofs.Spelled.{named_again, magic_there, magic_not_zero}
-
--- what holds once a call is done holds where it answers Ok
-pub on_ok : {T E : Type 0} (r : Result T E) (P : Type 0) → (IsTrue (is_ok r) → P) → OnOk r P
-on_ok (Ok x) P h = h refl
-on_ok (Err e) P h = search rules
 
 -- the page that is read at the front is the first one
 pub first_page : (content : Option (List (List ℕ))) (page : List ℕ) → option_and_then (λ pages. slice_get pages 0) content ≡ Some page → BeginsWith page content

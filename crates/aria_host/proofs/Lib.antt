@@ -1,4 +1,5 @@
 mod AfterCrash
+pub mod Answered
 mod Causes
 mod Crashed
 pub mod Files

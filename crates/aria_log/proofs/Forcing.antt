@@ -1,6 +1,6 @@
 -- Frames that are appended, and frames that are forced.
-use Rattle.std.proofs.Common.{◌≡◌, inl, ℕ, ◌+◌, ◌≤◌, Bool, true, false, IsTrue, Option, Some, List, [], ◌∷◌, ◌++◌, length, take, drop, refl, sym, ◌∙◌, ap, subst, arith, append_assoc, length-append, rules}
-use Rattle.std.specs.Prelude.{All, Result, Ok, Err, OnOk, is_ok}
+use Rattle.std.proofs.Common.{◌≡◌, inl, ℕ, ◌+◌, ◌≤◌, Bool, true, false, IsTrue, Option, Some, List, [], ◌∷◌, ◌++◌, length, take, drop, refl, sym, ◌∙◌, ap, subst, arith, append_assoc, length-append}
+use Rattle.std.specs.Prelude.{All}
 use Rattle.std.specs.List.{flat_map}
 use Rattle.std.proofs.lemmas.Grind.{flat_map-append}
 use Rattle.std.proofs.lemmas.List.{append-nil, length_push, drop-append-le, take-append-le, take-append-drop, take_all, drop_all, length-drop, nil_from_length}
@@ -18,15 +18,6 @@ use Rattle.aria_log.proofs.FrameLists.{all_found, length-frame_bytes}
 use Rattle.aria_log.proofs.Images.{image_from, whole_and_run}
 use Rattle.aria_log.proofs.Writing.{OnlyNow, one_call, one_after, more_at_log}
 use Rattle.aria_log.proofs.Appending.{nothing_moves, image_now}
-
--- what holds once a call is done holds where it answers Ok, and the other way round
-pub on_ok : {T E : Type 0} (r : Result T E) (P : Type 0) → (IsTrue (is_ok r) → P) → OnOk r P
-on_ok (Ok x) P h = h refl
-on_ok (Err e) P h = search rules
-
-pub on_ok_of : {T E : Type 0} (r : Result T E) (P : Type 0) → OnOk r P → IsTrue (is_ok r) → P
-on_ok_of (Ok x) P h done = h
-on_ok_of (Err e) P h done = absurd (cc)
 
 -- a frame more, as it is stored
 frames_push : (frames : List (List ℕ)) (frame : List ℕ) → frames_bytes (frames ++ frame ∷ []) ≡ (frames_bytes frames ++ number 4 (length frame)) ++ frame

@@ -2,7 +2,8 @@ use Rattle.std.proofs.Common.{refl, sym, ap, ◌≡◌, ◌∙◌}
 use Rattle.aria_host.specs.Folder.{Folder, with_page}
 use Rattle.aria_control.specs.Found.{control_file}
 use Rattle.aria_control.specs.ControlPage.{control_page}
-use Rattle.aria_control.proofs.Kept.{on_ok, kept_everywhere}
+use Rattle.aria_host.proofs.Answered.{on_ok}
+use Rattle.aria_control.proofs.Kept.{kept_everywhere}
 use Rattle.aria_control.proofs.writing.write.Goals as goal
 
 pub returns-clause-kept : goal.returns-clause-kept

@@ -1,4 +1,4 @@
-use Rattle.std.proofs.Common.{◌≡◌, ◌≤◌, IsTrue, drop}
+use Rattle.std.proofs.Common.{◌≡◌, IsTrue, drop}
 use Rattle.aria_host.specs.Calls.{Unchanged}
 use Rattle.aria_log.specs.Front.{begins_behind}
 use Rattle.aria_log.specs.Log.{log_pages}

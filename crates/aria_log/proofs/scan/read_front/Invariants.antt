@@ -1,4 +1,4 @@
-use Rattle.std.proofs.Common.{◌≡◌, ◌≤◌, IsTrue}
+use Rattle.std.proofs.Common.{◌≡◌, IsTrue}
 use Rattle.aria_host.specs.Calls.{Unchanged}
 use Rattle.aria_log.specs.Places.{EndsBefore}
 use Rattle.aria_log.specs.Log.{log_pages}

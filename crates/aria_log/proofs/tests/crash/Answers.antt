@@ -1,7 +1,7 @@
 use Rattle.std.proofs.Common.{ap}
 use Rattle.aria_host.specs.Folder.{Folder}
 use Rattle.aria_log.specs.Log.{log_file}
-use Rattle.aria_log.proofs.Forcing.{on_ok, on_ok_of}
+use Rattle.aria_host.proofs.Answered.{on_ok, on_ok_of}
 use Rattle.aria_log.proofs.tests.crash.Goals as goal
 
 pub returns : goal.returns

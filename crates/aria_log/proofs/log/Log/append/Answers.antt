@@ -1,5 +1,6 @@
 use Rattle.std.proofs.Common.{refl, is_ok}
-use Rattle.aria_log.proofs.Forcing.{appended, append_failed, on_ok, on_ok_of}
+use Rattle.aria_host.proofs.Answered.{on_ok, on_ok_of}
+use Rattle.aria_log.proofs.Forcing.{appended, append_failed}
 use Rattle.aria_log.proofs.log.Log.append.Goals as goal
 
 pub returns-in_err-add-clause-moments : goal.returns-in_err-add-clause-moments

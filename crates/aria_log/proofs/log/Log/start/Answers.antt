@@ -1,7 +1,7 @@
 use Rattle.std.proofs.Common.{◌≡◌, true, subst, Bool, is_ok}
 use Rattle.aria_host.specs.Calls.{Syncs}
 use Rattle.aria_log.specs.Log.{log_file}
-use Rattle.aria_log.proofs.Forcing.{on_ok}
+use Rattle.aria_host.proofs.Answered.{on_ok}
 use Rattle.aria_log.proofs.Starting.{started_log}
 use Rattle.aria_log.proofs.log.Log.start.Goals as goal
 
