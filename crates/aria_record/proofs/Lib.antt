@@ -1,3 +1,4 @@
+pub mod Lengths
 pub mod Readers
 pub mod Parts
 pub mod Records

@@ -5,12 +5,12 @@ ghost use Rattle.aria_page.specs.Field.{Gives};
 ghost use Rattle.aria_value.specs.Reading.{read_items, read_list};
 ghost use Rattle.aria_record.specs.declared.record.Record.{Record as AnyRecord};
 ghost use Rattle.aria_record.specs.Groups.{is_redo, is_last, is_edited, is_alone, is_group, IsGroup, IsInFront};
-ghost use Rattle.aria_record.specs.Spelled.{content_bytes, group_bytes};
+ghost use Rattle.aria_record.specs.Spelled.{group_bytes};
 ghost use Rattle.aria_record.specs.Reading.{read_record, read_content, read_group, Decodes};
 
 use crate::entries::{counted_at, record_at};
 use crate::record::{Group, Record};
-use crate::writing::{push_content, push_long};
+use crate::writing::push_group;
 use aria_page::{Bytes, List, u8_at};
 use std::alloc::{AllocError, Global};
 
@@ -147,23 +147,12 @@ pub fn decode_group(alloc: Global, bytes: &[u8]) -> Result<Option<(Group, usize)
     decode(alloc, bytes)
 }
 
-// The entries behind their number.
-fn content(alloc: Global, group: &Group) -> Result<Bytes, AllocError>
-    requires { IsGroup group.now }
-    ensures { IfOk result (λ bytes. bytes ≡ content_bytes group.now) }
-{
-    let mut out = List::new(alloc);
-    push_content(alloc, &mut out, group.as_slice())?;
-    Ok(out)
-}
-
 fn encode(alloc: Global, group: &Group) -> Result<Bytes, AllocError>
     requires { IsGroup group.now }
     ensures { IfOk result (λ bytes. bytes ≡ group_bytes group.now) }
 {
-    let content = content(alloc, group)?;
     let mut out = List::new(alloc);
-    push_long(&mut out, content.as_slice())?;
+    push_group(&mut out, group.as_slice())?;
     Ok(out)
 }
 

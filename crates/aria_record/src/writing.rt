@@ -1,20 +1,20 @@
 //! How entries are spelled.
 
-ghost use Rattle.std.specs.Prelude.{◌≡◌, ◌^◌, ◌<◌, ◌⊎◌, ◌++◌, length, All, OnOk};
+ghost use Rattle.std.specs.Prelude.{◌≡◌, ◌+◌, ◌^◌, ◌<◌, ◌≤◌, ◌⊎◌, ◌++◌, length, take, drop, All, OnOk};
 ghost use Rattle.std.specs.List.{flat_map};
 ghost use Rattle.aria_page.specs.Number.{number};
 ghost use Rattle.aria_page.specs.Edit.{IsWithin};
 ghost use Rattle.aria_page.specs.Lsn.{lsn_bytes};
 ghost use Rattle.aria_page.specs.Text.{name_bytes};
 ghost use Rattle.aria_value.specs.Stored.{list_bytes};
-ghost use Rattle.aria_record.specs.Spelled.{part_bytes, place_bytes, tail_bytes, places_bytes, edit_bytes, dirty_bytes, redo_number, kind_number, table_number, row_head, key_head, body_bytes, record_bytes, content_bytes};
+ghost use Rattle.aria_record.specs.Spelled.{part_bytes, place_bytes, tail_bytes, places_bytes, edit_bytes, dirty_bytes, redo_number, kind_number, table_number, row_head, key_head, body_bytes, record_bytes, content_bytes, group_bytes};
 ghost use Rattle.aria_record.specs.Groups.{BodyFits, RecordFits};
 
 use crate::record::{Dirty, Record};
 use aria_page::{
-    Bytes, Edit, List, Lsn, Name, Part, Place, Places, RedoKind, u16_bytes, u32_bytes, u40_bytes,
+    Bytes, Edit, Lsn, Name, Part, Place, Places, RedoKind, u16_bytes, u32_bytes, u40_bytes,
 };
-use std::alloc::{AllocError, Global};
+use std::alloc::AllocError;
 
 #[tactic(auto, unfolding(aria_page::specs::Number::number))]
 fn push_byte(out: &mut Bytes, n: u8) -> Result<(), AllocError>
@@ -468,52 +468,66 @@ fn push_body(out: &mut Bytes, entry: &Record) -> Result<(), AllocError>
     }
 }
 
-// Bytes behind 4 bytes with their number.
-pub(crate) fn push_long(out: &mut Bytes, bytes: &[u8]) -> Result<(), AllocError>
-    requires { length bytes.now < 2 ^ 32 }
-    ensures { OnOk result (out.new ≡ out.old ++ (number 4 (length bytes.now) ++ bytes.now)) }
+// Puts the number of the bytes behind a place of 4 bytes into it.
+fn set_length(out: &mut Bytes, at: usize)
+    requires place { at + 4 ≤ length out.old }
+    requires fits { length (drop (at + 4) out.old) < 2 ^ 32 }
+    ensures { out.new ≡ take at out.old ++ (number 4 (length (drop (at + 4) out.old)) ++ drop (at + 4) out.old) }
 {
-    push_u32(out, bytes.len() as u32)?;
-    out.extend_from_slice(bytes)
+    let count = out.len() - at - 4;
+    out.overwrite(at, &u32_bytes(count as u32));
 }
 
-fn push_behind_kind(out: &mut Bytes, kind: u8, body: &[u8]) -> Result<(), AllocError>
-    requires { length body.now < 2 ^ 32 }
-    ensures { OnOk result (out.new ≡ out.old ++ (number 1 kind ++ (number 4 (length body.now) ++ body.now))) }
+// A body behind 4 bytes with its length, which is known once the body is written.
+fn push_long_body(out: &mut Bytes, entry: &Record) -> Result<(), AllocError>
+    requires { RecordFits entry.now }
+    ensures { OnOk result (out.new ≡ out.old ++ (number 4 (length (body_bytes entry.now)) ++ body_bytes entry.now)) }
 {
-    push_byte(out, kind)?;
-    push_long(out, body)
+    let at = out.len();
+    push_u32(out, 0)?;
+    push_body(out, entry)?;
+    set_length(out, at);
+    Ok(())
 }
 
-fn push_record(alloc: Global, out: &mut Bytes, entry: &Record) -> Result<(), AllocError>
+fn push_record(out: &mut Bytes, entry: &Record) -> Result<(), AllocError>
     requires { RecordFits entry.now }
     ensures { OnOk result (out.new ≡ out.old ++ record_bytes entry.now) }
 {
-    let mut body = List::new(alloc);
-    push_body(&mut body, entry)?;
-    push_behind_kind(out, kind_number(entry), body.as_slice())
+    push_byte(out, kind_number(entry))?;
+    push_long_body(out, entry)
 }
 
-fn push_records(alloc: Global, out: &mut Bytes, entries: &[Record]) -> Result<(), AllocError>
+fn push_records(out: &mut Bytes, entries: &[Record]) -> Result<(), AllocError>
     requires { All RecordFits entries.now }
     ensures { OnOk result (out.new ≡ out.old ++ flat_map record_bytes entries.now) }
 {
     for entry in entries {
-        push_record(alloc, out, entry)?;
+        push_record(out, entry)?;
     }
     Ok(())
 }
 
 // The entries behind a byte with their number.
-pub(crate) fn push_content(
-    alloc: Global,
-    out: &mut Bytes,
-    entries: &[Record],
-) -> Result<(), AllocError>
+fn push_content(out: &mut Bytes, entries: &[Record]) -> Result<(), AllocError>
     requires few { length entries.now < 256 }
     requires each { All RecordFits entries.now }
     ensures { OnOk result (out.new ≡ out.old ++ content_bytes entries.now) }
 {
     push_byte(out, entries.len() as u8)?;
-    push_records(alloc, out, entries)
+    push_records(out, entries)
+}
+
+// The entries behind 4 bytes with the length of all that follows.
+pub(crate) fn push_group(out: &mut Bytes, entries: &[Record]) -> Result<(), AllocError>
+    requires few { length entries.now < 256 }
+    requires each { All RecordFits entries.now }
+    requires size { length (content_bytes entries.now) < 2 ^ 32 }
+    ensures { OnOk result (out.new ≡ out.old ++ group_bytes entries.now) }
+{
+    let at = out.len();
+    push_u32(out, 0)?;
+    push_content(out, entries)?;
+    set_length(out, at);
+    Ok(())
 }

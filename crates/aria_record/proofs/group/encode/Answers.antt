@@ -1,8 +1,6 @@
-use Rattle.std.proofs.Common.{◌≡◌, ℕ, List, length, ap, ◌∙◌, arith}
-use Rattle.aria_record.specs.Spelled.{content_bytes}
+use Rattle.std.proofs.lemmas.List.Elements.{All-from_recursion}
+use Rattle.aria_record.specs.Groups.{RecordFits}
 use Rattle.aria_record.proofs.group.encode.Goals as goal
 
-pub push_long-requires : goal.push_long-requires
-push_long-requires c =
-    let same : c.as_slice.result.now ≡ content_bytes c.args.group.now = c.as_slice.ensures ∙ c.in_ok-content.ensures in
-    omega (arith, ap (λ (l : List ℕ). length l) same, c.requires.size)
+pub push_group-requires-clause-each : goal.push_group-requires-clause-each
+push_group-requires-clause-each c = rw c.as_slice.ensures (All-from_recursion RecordFits c.args.group.now c.requires.each)
