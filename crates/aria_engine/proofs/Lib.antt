@@ -10,3 +10,4 @@ pub mod Turning
 pub mod FirstOther
 pub mod Replaying
 pub mod Settling
+pub mod Opening

@@ -32,7 +32,7 @@ use Rattle.aria_engine.specs.Opening.{HasLogCause, HasReplayCause, Replays, Reco
 use Rattle.aria_engine.proofs.Running.{holds_lines}
 use Rattle.aria_engine.proofs.Completing.{alone_after}
 
-nothing_of : (n : ℕ) → take {A = ℕ} n [] ≡ []
+pub nothing_of : (n : ℕ) → take {A = ℕ} n [] ≡ []
 nothing_of zero = refl
 nothing_of (suc n) = refl
 
@@ -63,7 +63,7 @@ keeps_then a b c first then = record {
 }
 
 -- where other files are none and the log's pages are those of a folder that holds tables
-same_log : (c d : Folder) (w : World) → IsLogAlone c → log_pages c ≡ log_pages d → Holds d w → Holds c w
+pub same_log : (c d : Folder) (w : World) → IsLogAlone c → log_pages c ≡ log_pages d → Holds d w → Holds c w
 same_log c d w alone same holds =
     holds_lines c (log_of d) w alone (ap frames_of same) (ap damaged_at same ∙ holds.sound) holds.changes holds.world_is
 

@@ -36,6 +36,12 @@ EachHolds s world = (c : Folder) → s.may_leave c → Holds c world
 abbrev pub AreLogAlone : State → Type 0
 AreLogAlone s = (c : Folder) → s.may_leave c → IsLogAlone c
 
+-- The folder as it reads holds these tables, and no folder that a crash now may leave has a file but the log's. What
+-- stands in the log of one that a crash may leave isn't said.
+pub record ReadsAs (s : State) (world : World) : Type 0 where
+  pub holds : Holds s.folder world
+  pub alone : AreLogAlone s
+
 -- the first of the files other than the log's, by the bytes of its name
 pub record IsFirstOther (file : FileName) (folder : Folder) : Type 0 where
   pub form : IsFileName file

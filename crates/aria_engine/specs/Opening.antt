@@ -18,8 +18,8 @@ use Rattle.aria_model.specs.Step.{step}
 use Rattle.aria_model.specs.Script.{no_exception, world_after}
 use Rattle.aria_model.specs.Journal.{is_change, first_no_change}
 use Rattle.aria_engine.specs.declared.store.Store.{Store}
-use Rattle.aria_engine.specs.Holds.{EachHolds, IsLineDamage}
-use Rattle.aria_engine.specs.Store.{tables_of, IsSilent, StillHolds}
+use Rattle.aria_engine.specs.Holds.{EachHolds, ReadsAs, IsLineDamage}
+use Rattle.aria_engine.specs.Store.{tables_of, IsSilent, StillHolds, OpensAs}
 
 -- of the files seen this one isn't the log's, and no other but the log's comes before its name
 pub record IsLeast (file : FileName) (text : List ℕ) (seen : List FileName) : Type 0 where
@@ -77,6 +77,12 @@ pub record Keeps (old new : State) : Type 0 where
   pub moments : (world : World) → EachHolds old world → LeavesOnly old new (StillHolds world old.out)
   pub each : (world : World) → EachHolds old world → EachHolds new world
   pub silent : IsSilent old new
+
+-- A folder that reads as some tables is opened, whatever a crash might have left of it: meanwhile a crash leaves that or
+-- these tables, and once it is done these tables alone.
+pub record Opens (old new : State) (done : Bool) : Type 0 where
+  pub moments : (world : World) → ReadsAs old world → LeavesOnly old new (OpensAs old world)
+  pub each : (world : World) → ReadsAs old world → IsTrue done → EachHolds new world
 
 -- the log's pages are as they were: the folder is, or an empty file was made
 abbrev pub SameLog : Folder → Folder → Type 0

@@ -1,5 +1,5 @@
 -- A store between its statements.
-use Rattle.std.specs.Prelude.{◌≡◌, ℕ, ◌+◌, ◌≤◌, [], ◌==◌, if◌then◌else◌, IsTrue, Bool, Option, None, List, length}
+use Rattle.std.specs.Prelude.{◌≡◌, ◌⊎◌, ℕ, ◌+◌, ◌≤◌, [], ◌==◌, if◌then◌else◌, IsTrue, Bool, Option, None, List, length}
 use Rattle.aria_host.specs.declared.fault.Fault.{Fault}
 use Rattle.aria_host.specs.declared.fault.Fault.TheVariants.{Memory, Disk, Tell, Input, NotOurs, LogDamaged}
 use Rattle.aria_host.specs.Count.{Rose}
@@ -70,6 +70,10 @@ HasOpenCause tells (NotOurs file) old new = IsTrue tells → IsDamage (NotOurs f
 -- a crash leaves these tables, with nothing more told
 abbrev pub StillHolds : World → List ℕ → Folder → List ℕ → Type 0
 StillHolds world out c b = Holds c world × (b ≡ out)
+
+-- a crash leaves what one might have left at first, or these tables, with nothing more told
+abbrev pub OpensAs : State → World → Folder → List ℕ → Type 0
+OpensAs old world c b = (old.may_leave c ⊎ Holds c world) × (b ≡ old.out)
 
 -- the cause of a fault of a store that runs: the disk or a stream failed, or memory is short
 abbrev pub HasCause : Fault → State → State → Type 0

@@ -8,6 +8,7 @@ ghost use Rattle.aria_model.specs.Grammar.{is_blank_line};
 ghost use Rattle.aria_model.specs.World.{World};
 ghost use Rattle.aria_engine.specs.Done.{Does, DoesPart};
 ghost use Rattle.aria_engine.specs.Holds.{Holds, EachHolds};
+ghost use Rattle.aria_engine.specs.Opening.{Opens};
 ghost use Rattle.aria_engine.specs.Outcomes.{was_refused, was_blank};
 ghost use Rattle.aria_engine.specs.Store.{tables_of, count_of, pages_of, IsFresh, IsRunning, IsSilent, StillHolds, SameFaults, NoFewerFaults, HasOpenCause, HasCause};
 
@@ -50,6 +51,7 @@ impl<'a, H: Host> Engine<'a, H> {
         ensures silent { IsTrue H.tells → MatchResult result (λ engine. IsSilent (H.state host.old) (H.state engine.host.now)) (λ lost. IsSilent (H.state host.old) (H.state lost.1.now)) }
         ensures each { IsTrue H.tells → (world : World) → EachHolds (H.state host.old) world
             → MatchResult result (λ engine. EachHolds (H.state engine.host.now) world) (λ lost. EachHolds (H.state lost.1.now) world) }
+        ensures opens { IsTrue H.tells → MatchResult result (λ engine. Opens (H.state host.old) (H.state engine.host.now) true) (λ lost. Opens (H.state host.old) (H.state lost.1.now) false) }
         ensures cause { IfErr result (λ lost. HasOpenCause H.tells lost.0 (H.state host.old) (H.state lost.1.now)) }
         ensures calm { IfOk result (λ engine. SameFaults (H.state host.old) (H.state engine.host.now)) }
         ensures later { MatchResult result (λ engine. NoFewerFaults (H.state host.old) (H.state engine.host.now)) (λ lost. NoFewerFaults (H.state host.old) (H.state lost.1.now)) }

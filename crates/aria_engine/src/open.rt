@@ -1,6 +1,6 @@
 //! Opens a store.
 
-ghost use Rattle.std.specs.Prelude.{◌≡◌, ◌≤◌, map, length, IfOk, IfErr, OnOk, IsTrue, None};
+ghost use Rattle.std.specs.Prelude.{◌≡◌, ◌≤◌, map, length, IfOk, IfErr, OnOk, IsTrue, None, is_ok};
 ghost use Rattle.aria_host.specs.Folder.{page_count};
 ghost use Rattle.aria_host.specs.State.{LeavesOnly};
 ghost use Rattle.aria_host.specs.Calls.{HasDiskCause, Unchanged};
@@ -8,7 +8,7 @@ ghost use Rattle.aria_log.specs.declared.opened.Frame.{Frame};
 ghost use Rattle.aria_log.specs.Log.{log_file, log_pages, IsLogAtRest};
 ghost use Rattle.aria_model.specs.World.{World};
 ghost use Rattle.aria_engine.specs.Holds.{Holds, EachHolds};
-ghost use Rattle.aria_engine.specs.Opening.{HasLogCause, HasReplayCause, HoldsLog, Keeps, Recovered, Replays, SameLog};
+ghost use Rattle.aria_engine.specs.Opening.{HasLogCause, HasReplayCause, HoldsLog, Keeps, Opens, Recovered, Replays, SameLog};
 ghost use Rattle.aria_engine.specs.Store.{tables_of, pages_of, IsFresh, IsRunning, IsSilent, StillHolds, SameFaults, NoFewerFaults, HasOpenCause};
 
 use crate::others::find_other;
@@ -24,6 +24,7 @@ use std::alloc::Global;
 // Makes the log's file where it isn't there, and else brings it to the disk as it reads.
 fn settle<H: Host>(host: &mut H) -> Result<(), Fault>
     ensures keeps { IsTrue H.tells → Keeps (H.state host.old) (H.state host.new) }
+    ensures opens { IsTrue H.tells → Opens (H.state host.old) (H.state host.new) (is_ok result) }
     ensures rest { IsTrue H.tells → OnOk result (IsLogAtRest (H.state host.new)) }
     ensures same { IsTrue H.tells → OnOk result (SameLog (H.state host.old).folder (H.state host.new).folder) }
     ensures cause { HasDiskCause (H.state host.old) (H.state host.new) result }
@@ -78,6 +79,7 @@ fn resume<H: Host>(alloc: Global, host: &mut H) -> Result<Store, Fault>
     ensures running { IsTrue H.tells → IfOk result (λ store. IsRunning store (H.state host.new)) }
     ensures pages { IsTrue H.tells → IfOk result (λ store. pages_of store ≤ page_count log_file (H.state host.old).folder) }
     ensures keeps { IsTrue H.tells → Keeps (H.state host.old) (H.state host.new) }
+    ensures opens { IsTrue H.tells → Opens (H.state host.old) (H.state host.new) (is_ok result) }
     ensures cause { IfErr result (λ fault. HasLogCause H.tells fault (H.state host.old) (H.state host.new)) }
     ensures calm { OnOk result (SameFaults (H.state host.old) (H.state host.new)) }
     ensures later { NoFewerFaults (H.state host.old) (H.state host.new) }
@@ -116,6 +118,7 @@ impl Store {
         ensures pages { IsTrue H.tells → IfOk result (λ store. pages_of store ≤ page_count log_file (H.state host.old).folder) }
         ensures moments { IsTrue H.tells → (world : World) → EachHolds (H.state host.old) world
             → LeavesOnly (H.state host.old) (H.state host.new) (StillHolds world (H.state host.old).out) }
+        ensures opens { IsTrue H.tells → Opens (H.state host.old) (H.state host.new) (is_ok result) }
         ensures silent { IsTrue H.tells → IsSilent (H.state host.old) (H.state host.new) }
         ensures each { IsTrue H.tells → (world : World) → EachHolds (H.state host.old) world → EachHolds (H.state host.new) world }
         ensures cause { IfErr result (λ fault. HasOpenCause H.tells fault (H.state host.old) (H.state host.new)) }

@@ -10,14 +10,14 @@ use Rattle.aria_host.specs.declared.fault.Fault.TheVariants as faults
 use Rattle.aria_host.proofs.Moments.{joined, weakened}
 use Rattle.aria_model.specs.World.{World}
 use Rattle.aria_model.specs.Script.{Exceptions, lines_of, ended_lines, told, any_refused, acknowledged}
-use Rattle.aria_engine.specs.Holds.{Holds, IsDamage}
-use Rattle.aria_engine.specs.Store.{SameFaults, StillHolds}
+use Rattle.aria_engine.specs.Holds.{Holds, EachHolds, IsDamage}
+use Rattle.aria_engine.specs.Store.{SameFaults, OpensAs, HasOpenCause}
 use Rattle.aria_engine.specs.Done.{Leaves}
 use Rattle.aria_engine.proofs.Leaving.{leaves_none}
 use Rattle.aria_tools.specs.declared.stop.Stop.{Stop}
 use Rattle.aria_tools.specs.declared.stop.Stop.TheVariants.{Memory, Disk, LogDamaged, NotOurs, Input, Tell, TooLong}
-use Rattle.aria_tools.specs.Stops.{damage_of}
-use Rattle.aria_tools.specs.Endings.{Supply, StopsBy, Ends, AnswersAll, AnswersBy, AnswersEnded, AnswersFull, Answered, WasSound, Runs, Prefix, IsEnd, IsEndText, IsStatusText, TellsText, TellsErr, status_of_run}
+use Rattle.aria_tools.specs.Stops.{damage_of, stop_of}
+use Rattle.aria_tools.specs.Endings.{Supply, StopsBy, Ends, AnswersAll, AnswersBy, AnswersEnded, AnswersFull, Answered, WasSound, Runs, RunsWhole, Began, Prefix, BeganOrPrefix, IsEnd, IsEndText, IsStatusText, TellsText, TellsErr, status_of_run}
 use Rattle.aria_tools.proofs.Pieces.{rose_since, same_faults_more}
 
 -- in the words of the whole run
@@ -61,24 +61,47 @@ answered_after s0 s1 w xs (Err stop) h h0 h1 same part = record {
   by = by_after stop s0 s1 w xs h h0 h1 same part.by;
 }
 
--- a run, also since its store was opened, in which each crash left the same tables
+-- what a crash leaves as a store is opened, in the words of the whole run
+opens_began : (h : State) (w : World) (lines : List (List ℕ)) (xs : Exceptions) (c : Folder) (t : List ℕ) → OpensAs h w c t → Began h c t ⊎ Leaves w lines xs h.out c t
+opens_began h w lines xs c t (left, is) = ⊎_elim (λ was. inl (was, is)) (λ holds. inr (leaves_none w lines xs h.out c t is holds)) left
+
+-- a run, also since its store was opened
 pub runs_after : (s0 s1 : Supply) (world opened : World) (xs : Exceptions) (r : Result Bool Stop) (h h0 h1 : State) → opened ≡ world → h0.out ≡ h.out
-    → LeavesOnly h h0 (StillHolds world h.out) → Runs s0 s1 opened xs r h0 h1 → Runs s0 s1 world xs r h h1
-runs_after s0 s1 world opened xs r h h0 h1 is same still runs = record {
+    → LeavesOnly h h0 (OpensAs h world) → Runs s0 s1 opened xs r h0 h1 → RunsWhole s0 s1 world xs r h h1
+runs_after s0 s1 world opened xs r h h0 h1 is same opens runs = record {
   answered = answered_after s0 s1 world xs r h h0 h1 same (subst (λ (w : World). Answered s0 s1 w xs r h0 h1) is runs.answered);
-  moments = joined h h0 h1 (Leaves world (lines_of s0.left) xs h.out) (Leaves opened (lines_of s0.left) xs h0.out)
-      (weakened h h0 (StillHolds world h.out) (Leaves world (lines_of s0.left) xs h.out) still (λ c t holds. leaves_none world (lines_of s0.left) xs h.out c t holds.1 holds.0))
+  moments = joined h h0 h1 (λ c t. Began h c t ⊎ Leaves world (lines_of s0.left) xs h.out c t) (Leaves opened (lines_of s0.left) xs h0.out)
+      (weakened h h0 (OpensAs h world) (λ c t. Began h c t ⊎ Leaves world (lines_of s0.left) xs h.out c t) opens (opens_began h world (lines_of s0.left) xs))
       runs.moments
-      (λ c t leaves. subst (λ (o : List ℕ). Leaves world (lines_of s0.left) xs o c t) same (subst (λ (w : World). Leaves w (lines_of s0.left) xs h0.out c t) is leaves));
+      (λ c t leaves. inr (subst (λ (o : List ℕ). Leaves world (lines_of s0.left) xs o c t) same (subst (λ (w : World). Leaves w (lines_of s0.left) xs h0.out c t) is leaves)));
 }
 
 -- a run that stopped as its store was opened
 pub runs_never : (s0 s1 : Supply) (world : World) (xs : Exceptions) (stop : Stop) (h h0 : State) → h0.out ≡ h.out → AnswersBy stop s0 s1 world xs h h0
-    → LeavesOnly h h0 (StillHolds world h.out) → Runs s0 s1 world xs (Err stop) h h0
-runs_never s0 s1 world xs stop h h0 same by still = record {
+    → LeavesOnly h h0 (OpensAs h world) → RunsWhole s0 s1 world xs (Err stop) h h0
+runs_never s0 s1 world xs stop h h0 same by opens = record {
   answered = record { out = (0, same ∙ sym (append-nil h.out)); by = by };
-  moments = weakened h h0 (StillHolds world h.out) (Leaves world (lines_of s0.left) xs h.out) still (λ c t holds. leaves_none world (lines_of s0.left) xs h.out c t holds.1 holds.0);
+  moments = weakened h h0 (OpensAs h world) (λ c t. Began h c t ⊎ Leaves world (lines_of s0.left) xs h.out c t) opens (opens_began h world (lines_of s0.left) xs);
 }
+
+-- a fault of the opening owes no answers
+pub opening_answers : (to : Bool) (fault : Fault) (s0 s1 : Supply) (w : World) (xs : Exceptions) (h h0 : State) → HasOpenCause to fault h h0 → AnswersBy (stop_of fault) s0 s1 w xs h h0
+opening_answers to (faults.Memory error) s0 s1 w xs h h0 cause = tt
+opening_answers to faults.Disk s0 s1 w xs h h0 cause = tt
+opening_answers to faults.Tell s0 s1 w xs h h0 cause = absurd cause
+opening_answers to faults.Input s0 s1 w xs h h0 cause = absurd cause
+opening_answers to (faults.LogDamaged file page) s0 s1 w xs h h0 cause = tt
+opening_answers to (faults.NotOurs file) s0 s1 w xs h h0 cause = tt
+
+-- what a crash leaves of a run, in the words of the whole command
+pub began_or_prefix : (h : State) (w : World) (lines : List (List ℕ)) (xs : Exceptions) (c : Folder) (t : List ℕ) → Began h c t ⊎ Leaves w lines xs h.out c t → BeganOrPrefix h w lines xs c t
+began_or_prefix h w lines xs c t (inl was) = inl was
+began_or_prefix h w lines xs c t (inr leaves) = inr (leaves_prefix w lines xs h.out c t leaves)
+
+-- where each folder that a crash might have left as the run began holds the tables, it is one with them
+pub each_prefix : (h : State) (w : World) (lines : List (List ℕ)) (xs : Exceptions) → EachHolds h w → (c : Folder) (t : List ℕ) → Began h c t ⊎ Leaves w lines xs h.out c t → Prefix w lines xs h.out c t
+each_prefix h w lines xs each c t (inl was) = leaves_prefix w lines xs h.out c t (leaves_none w lines xs h.out c t was.1 (each c was.0))
+each_prefix h w lines xs each c t (inr leaves) = leaves_prefix w lines xs h.out c t leaves
 
 -- what is told on standard error leaves what a crash may leave
 pub moments_after : (P : Folder → List ℕ → Type 0) (h h0 h1 : State) → ((c : Folder) → h.moment ≤ h0.moment → h0.may_leave c → h0.since h.moment c h0.out) → LeavesOnly h h0 P → TellsErr h0 h1 → LeavesOnly h h1 P
@@ -106,7 +129,7 @@ pub ended_ok : (r : Result Bool Stop) (status : ℕ) → IsEnd r status → stat
 ended_ok r status end low = ⊎_elim (λ (is : status ≡ status_of_run r). let ok = ok_of r (omega (arith, low, is)) in (ok.0, ok.1, is)) (λ both. absurd (omega (arith, low, both.0))) end
 
 -- what a run that has read all has answered
-pub all_answered : (s0 s1 : Supply) (w : World) (xs : Exceptions) (r : Result Bool Stop) (refused : Bool) (h h0 : State) → r ≡ Ok refused → Runs s0 s1 w xs r h h0 → AnswersAll s0 w xs refused h h0
+pub all_answered : (s0 s1 : Supply) (w : World) (xs : Exceptions) (r : Result Bool Stop) (refused : Bool) (h h0 : State) → r ≡ Ok refused → RunsWhole s0 s1 w xs r h h0 → AnswersAll s0 w xs refused h h0
 all_answered s0 s1 w xs r refused h h0 is runs = subst (λ (o : Result Bool Stop). Answered s0 s1 w xs o h h0) is runs.answered
 
 one_where : (refused any : Bool) (status : ℕ) → status ≡ status_of_run (Ok refused) → refused ≡ any → (status ≡ 1) ↔ IsTrue any
@@ -116,7 +139,7 @@ one_where true false status is same = absurd (cc)
 one_where false true status is same = absurd (cc)
 
 -- a refusal is told by the status
-pub refused_is : (s0 s1 : Supply) (w : World) (xs : Exceptions) (r : Result Bool Stop) (status : ℕ) (h h0 : State) → IsEnd r status → status ≤ 1 → Runs s0 s1 w xs r h h0
+pub refused_is : (s0 s1 : Supply) (w : World) (xs : Exceptions) (r : Result Bool Stop) (status : ℕ) (h h0 : State) → IsEnd r status → status ≤ 1 → RunsWhole s0 s1 w xs r h h0
     → (status ≡ 1) ↔ IsTrue (any_refused w (lines_of s0.left) xs)
 refused_is s0 s1 w xs r status h h0 end low runs =
     let ok = ended_ok r status end low in
@@ -146,20 +169,20 @@ stop_eight (Err Tell) is = absurd (omega (arith, is))
 stop_eight (Err TooLong) is = refl
 
 -- what a run has answered at a fault of the input
-pub ended_answered : (s0 s1 : Supply) (w : World) (xs : Exceptions) (r : Result Bool Stop) (status : ℕ) (h h0 h1 : State) → IsEnd r status → status ≡ 6 → Runs s0 s1 w xs r h h0 → h1.out ≡ h0.out → AnswersEnded s0 s1 w xs h h1
+pub ended_answered : (s0 s1 : Supply) (w : World) (xs : Exceptions) (r : Result Bool Stop) (status : ℕ) (h h0 h1 : State) → IsEnd r status → status ≡ 6 → RunsWhole s0 s1 w xs r h h0 → h1.out ≡ h0.out → AnswersEnded s0 s1 w xs h h1
 ended_answered s0 s1 w xs r status h h0 h1 end six runs same =
     let is = stop_six r (⊎_elim (λ (e : status ≡ status_of_run r). sym e ∙ six) (λ both. absurd (omega (arith, six, both.0))) end) in
     let part = subst (λ (o : Result Bool Stop). Answered s0 s1 w xs o h h0) is runs.answered in
     (part.by.0, part.by.1, same ∙ part.by.2)
 
-pub full_answered : (s0 s1 : Supply) (w : World) (xs : Exceptions) (r : Result Bool Stop) (status : ℕ) (h h0 h1 : State) → IsEnd r status → status ≡ 8 → Runs s0 s1 w xs r h h0 → h1.out ≡ h0.out → AnswersFull s0 s1 w xs h h1
+pub full_answered : (s0 s1 : Supply) (w : World) (xs : Exceptions) (r : Result Bool Stop) (status : ℕ) (h h0 h1 : State) → IsEnd r status → status ≡ 8 → RunsWhole s0 s1 w xs r h h0 → h1.out ≡ h0.out → AnswersFull s0 s1 w xs h h1
 full_answered s0 s1 w xs r status h h0 h1 end eight runs same =
     let is = stop_eight r (⊎_elim (λ (e : status ≡ status_of_run r). sym e ∙ eight) (λ both. absurd (omega (arith, eight, both.0))) end) in
     let part = subst (λ (o : Result Bool Stop). Answered s0 s1 w xs o h h0) is runs.answered in
     (part.by.0, part.by.1, part.by.2, part.by.3, same ∙ part.by.4)
 
 -- a front of what all lines tell was told
-pub front_told : (s0 s1 : Supply) (w : World) (xs : Exceptions) (r : Result Bool Stop) (h h0 : State) → Runs s0 s1 w xs r h h0 → (n : ℕ) × (h0.out ≡ h.out ++ take n (told w (lines_of s0.left) xs))
+pub front_told : (s0 s1 : Supply) (w : World) (xs : Exceptions) (r : Result Bool Stop) (h h0 : State) → RunsWhole s0 s1 w xs r h h0 → (n : ℕ) × (h0.out ≡ h.out ++ take n (told w (lines_of s0.left) xs))
 front_told s0 s1 w xs r h h0 runs = front r runs.answered
   where
     front : (o : Result Bool Stop) → Answered s0 s1 w xs o h h0 → (n : ℕ) × (h0.out ≡ h.out ++ take n (told w (lines_of s0.left) xs))
@@ -205,7 +228,7 @@ no_damage faults.Input folder w damage holds = absurd damage
 
 -- no fault is counted, so none is answered
 pub completes : (to : Bool) (ti : Bool) (s0 s1 : Supply) (w : World) (xs : Exceptions) (r : Result Bool Stop) (status : ℕ) (h h0 h1 : State) → IsTrue to → Holds h.folder w
-    → Ends ti to s0 s1 r h h0 → Runs s0 s1 w xs r h h0 → IsEnd r status → length s0.left ≤ 2 ^ 40
+    → Ends ti to s0 s1 r h h0 → RunsWhole s0 s1 w xs r h h0 → IsEnd r status → length s0.left ≤ 2 ^ 40
     → (Rose h.disk_faults h1.disk_faults → ⊥) → (Rose h.tell_faults h1.tell_faults → ⊥) → (Rose s0.faults s1.faults → ⊥)
     → h0.disk_faults ≤ h1.disk_faults → h0.tell_faults ≤ h1.tell_faults → (status ≤ 1) ⊎ (status ≡ 3)
 completes to ti s0 s1 w xs r status h h0 h1 told holds ends runs end short disk tell input disk_later tell_later =

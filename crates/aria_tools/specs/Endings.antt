@@ -113,11 +113,26 @@ pub record Runs (supply supply_now : Supply) (world : World) (exceptions : Excep
   pub answered : Answered supply supply_now world exceptions result before now
   pub moments : LeavesOnly before now (Leaves world (lines_of supply.left) exceptions before.out)
 
+-- a crash leaves what one might have left as the run began, with nothing told since
+abbrev pub Began : State → Folder → List ℕ → Type 0
+Began before c b = before.may_leave c × (b ≡ before.out)
+
+-- A run on a folder that read as these tables, and its opening: what it has answered, and what a crash at any moment may
+-- have left.
+pub record RunsWhole (supply supply_now : Supply) (world : World) (exceptions : Exceptions) (result : Result Bool Stop) (before now : State) : Type 0 where
+  pub answered : Answered supply supply_now world exceptions result before now
+  pub moments : LeavesOnly before now (λ c b. Began before c b ⊎ Leaves world (lines_of supply.left) exceptions before.out c b)
+
 -- A crash leaves the tables after the first so many of the statements, no fewer than are acknowledged in what was told since.
 pub record Prefix (world : World) (lines : List (List ℕ)) (exceptions : Exceptions) (out : List ℕ) (c : Folder) (b : List ℕ) : Type 0 where
   pub count : ℕ
   pub acked : acknowledged (drop (length out) b) ≤ count
   pub holds : Holds c (after world lines exceptions count)
+
+-- A crash leaves what one might have left as the run began, with nothing told since, or the tables after the first so
+-- many of the statements.
+abbrev pub BeganOrPrefix : State → World → List (List ℕ) → Exceptions → Folder → List ℕ → Type 0
+BeganOrPrefix before world lines exceptions c b = Began before c b ⊎ Prefix world lines exceptions before.out c b
 
 -- the status of a run
 abbrev pub status_of_run : Result Bool Stop → ℕ

@@ -8,10 +8,10 @@ ghost use Rattle.aria_log.specs.Log.{log_file};
 ghost use Rattle.aria_model.specs.World.{World};
 ghost use Rattle.aria_model.specs.Script.{any_refused, lines_of, statements, told, world_after};
 ghost use Rattle.aria_model.specs.Journal.{met_at};
-ghost use Rattle.aria_engine.specs.Holds.{EachHolds, Holds, AtRest, IsSettled};
+ghost use Rattle.aria_engine.specs.Holds.{EachHolds, ReadsAs, Holds, AtRest, IsSettled};
 ghost use Rattle.aria_engine.specs.Store.{SameFaults};
 ghost use Rattle.aria_engine.specs.Done.{IsFull};
-ghost use Rattle.aria_tools.specs.Endings.{AnswersEnded, AnswersFull, Counts, IsStatus, Prefix, TellsStatus};
+ghost use Rattle.aria_tools.specs.Endings.{AnswersEnded, AnswersFull, BeganOrPrefix, Counts, IsStatus, Prefix, TellsStatus};
 ghost use Rattle.aria_tools.specs.Pieces.{supply};
 ghost use Rattle.aria_tools.specs.Words.{IsRun};
 
@@ -47,6 +47,11 @@ pub fn aria<H: Host, S: Source>(
     ensures any_moment { IsTrue H.tells → IsTrue S.tells → (world : World) → EachHolds (H.state host.old) world
         → LeavesOnly (H.state host.old) (H.state host.new) (Prefix world (lines_of (S.left input.old)) (met_at result.met) (H.state host.old).out) }
 
+    // Whatever a crash might have left as the run began, as behind a run that was killed: a crash leaves that, with
+    // nothing told, or the tables after the first k statements, on those that the folder read as.
+    ensures any_moment_read { IsTrue H.tells → IsTrue S.tells → (world : World) → ReadsAs (H.state host.old) world
+        → LeavesOnly (H.state host.old) (H.state host.new) (BeganOrPrefix (H.state host.old) world (lines_of (S.left input.old)) (met_at result.met)) }
+
     // A statement is refused for want of room in the log only where the statements before it can have filled it.
     ensures met { IsTrue S.tells → IsTrue H.tells → All (IsFull (lines_of (S.left input.old)) 0 (page_count log_file (H.state host.old).folder)) result.met }
     ensures statuses { IsStatus result.status }
@@ -60,19 +65,19 @@ pub fn aria<H: Host, S: Source>(
     // With 0 or 1 all of the input was read, and what its lines tell was told; 1 says that a reply was a refusal. The
     // folder is at rest and holds the tables after all statements. No fault was counted.
     ensures done_read { result.status ≤ 1 → IsTrue S.tells → S.left input.new ≡ [] }
-    ensures done_told { result.status ≤ 1 → IsTrue S.tells → IsTrue H.tells → (world : World) → EachHolds (H.state host.old) world
+    ensures done_told { result.status ≤ 1 → IsTrue S.tells → IsTrue H.tells → (world : World) → ReadsAs (H.state host.old) world
         → (H.state host.new).out ≡ (H.state host.old).out ++ told world (lines_of (S.left input.old)) (met_at result.met) }
-    ensures done_refused { result.status ≤ 1 → IsTrue S.tells → IsTrue H.tells → (world : World) → EachHolds (H.state host.old) world
+    ensures done_refused { result.status ≤ 1 → IsTrue S.tells → IsTrue H.tells → (world : World) → ReadsAs (H.state host.old) world
         → ((result.status ≡ 1) ↔ IsTrue (any_refused world (lines_of (S.left input.old)) (met_at result.met))) }
-    ensures done_rest { result.status ≤ 1 → IsTrue S.tells → IsTrue H.tells → (world : World) → EachHolds (H.state host.old) world → AtRest (H.state host.new) }
-    ensures done_settled { result.status ≤ 1 → IsTrue S.tells → IsTrue H.tells → (world : World) → EachHolds (H.state host.old) world → IsSettled (H.state host.new).folder }
-    ensures done_holds { result.status ≤ 1 → IsTrue S.tells → IsTrue H.tells → (world : World) → EachHolds (H.state host.old) world
+    ensures done_rest { result.status ≤ 1 → IsTrue S.tells → IsTrue H.tells → (world : World) → ReadsAs (H.state host.old) world → AtRest (H.state host.new) }
+    ensures done_settled { result.status ≤ 1 → IsTrue S.tells → IsTrue H.tells → (world : World) → ReadsAs (H.state host.old) world → IsSettled (H.state host.new).folder }
+    ensures done_holds { result.status ≤ 1 → IsTrue S.tells → IsTrue H.tells → (world : World) → ReadsAs (H.state host.old) world
         → Holds (H.state host.new).folder (world_after world (statements (lines_of (S.left input.old))) (met_at result.met)) }
     ensures done_calm { result.status ≤ 1 → SameFaults (H.state host.old) (H.state host.new) }
     ensures done_calm_too { result.status ≤ 1 → S.faults input.new ≡ S.faults input.old }
 
     // Else a front of it was told.
-    ensures part_told { result.status ≢ 2 → IsTrue S.tells → IsTrue H.tells → (world : World) → EachHolds (H.state host.old) world
+    ensures part_told { result.status ≢ 2 → IsTrue S.tells → IsTrue H.tells → (world : World) → ReadsAs (H.state host.old) world
         → (n : ℕ) × ((H.state host.new).out ≡ (H.state host.old).out ++ take n (told world (lines_of (S.left input.old)) (met_at result.met))) }
 
     // A damaged folder is refused: but with 2 to 5 it held tables as the call began.
@@ -87,7 +92,7 @@ pub fn aria<H: Host, S: Source>(
 
     // 6: the input failed. All lines are answered that LF ends in the bytes taken.
     ensures input_fault { result.status ≡ 6 → Rose (S.faults input.old) (S.faults input.new) }
-    ensures input_fault_told { result.status ≡ 6 → IsTrue S.tells → IsTrue H.tells → (world : World) → EachHolds (H.state host.old) world → AnswersEnded
+    ensures input_fault_told { result.status ≡ 6 → IsTrue S.tells → IsTrue H.tells → (world : World) → ReadsAs (H.state host.old) world → AnswersEnded
         (supply (S.left input.old) (S.taken input.old) (S.faults input.old)) (supply (S.left input.new) (S.taken input.new) (S.faults input.new))
         world (met_at result.met) (H.state host.old) (H.state host.new) }
 
@@ -97,12 +102,12 @@ pub fn aria<H: Host, S: Source>(
     // 8: exactly where 2^40 bytes were taken and a further one. All lines are answered that LF ends in the former.
     ensures too_long { result.status ≡ 8 → Counts (S.taken input.old) (2 ^ 40 + 1) (S.taken input.new) }
     ensures too_long_always { S.taken input.old + 2 ^ 40 + 1 ≤ S.taken input.new → result.status ≡ 8 }
-    ensures too_long_told { result.status ≡ 8 → IsTrue S.tells → IsTrue H.tells → (world : World) → EachHolds (H.state host.old) world → AnswersFull
+    ensures too_long_told { result.status ≡ 8 → IsTrue S.tells → IsTrue H.tells → (world : World) → ReadsAs (H.state host.old) world → AnswersFull
         (supply (S.left input.old) (S.taken input.old) (S.faults input.old)) (supply (S.left input.new) (S.taken input.new) (S.faults input.new))
         world (met_at result.met) (H.state host.old) (H.state host.new) }
 
     // It ends with 0 or 1, or for want of memory, where the folder holds tables, the input is short enough and no fault is counted.
-    ensures complete { IsRun words.now → IsTrue S.tells → IsTrue H.tells → (world : World) → EachHolds (H.state host.old) world
+    ensures complete { IsRun words.now → IsTrue S.tells → IsTrue H.tells → (world : World) → ReadsAs (H.state host.old) world
         → length (S.left input.old) ≤ 2 ^ 40 → (¬ Rose (H.state host.old).disk_faults (H.state host.new).disk_faults)
         → (¬ Rose (H.state host.old).tell_faults (H.state host.new).tell_faults) → (¬ Rose (S.faults input.old) (S.faults input.new))
         → (result.status ≤ 1) ⊎ (result.status ≡ 3) }

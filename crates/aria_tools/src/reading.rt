@@ -6,10 +6,10 @@ ghost use Rattle.aria_log.specs.Log.{log_file};
 ghost use Rattle.aria_model.specs.World.{World};
 ghost use Rattle.aria_model.specs.Script.{lines_of};
 ghost use Rattle.aria_model.specs.Journal.{met_at};
-ghost use Rattle.aria_engine.specs.Holds.{EachHolds};
+ghost use Rattle.aria_engine.specs.Holds.{ReadsAs};
 ghost use Rattle.aria_engine.specs.Store.{NoFewerFaults, SameFaults, IsFresh};
 ghost use Rattle.aria_engine.specs.Done.{DoesPart, IsFull};
-ghost use Rattle.aria_tools.specs.Endings.{Ends, Runs, Took, WasSound};
+ghost use Rattle.aria_tools.specs.Endings.{Ends, RunsWhole, Took, WasSound};
 ghost use Rattle.aria_tools.specs.Held.{clipped};
 ghost use Rattle.aria_tools.specs.Pieces.{Fed, IsReady, TakesPiece, NoPiece, supply};
 ghost use Rattle.aria_tools.specs.Sessions.{LineStops, RunsOn, RunsFrom};
@@ -128,7 +128,7 @@ pub fn run<H: Host, S: Source>(alloc: Global, host: &mut H, input: &mut S) -> Ra
     ensures ends { Ends S.tells H.tells
         (supply (S.left input.old) (S.taken input.old) (S.faults input.old)) (supply (S.left input.new) (S.taken input.new) (S.faults input.new))
         result.outcome (H.state host.old) (H.state host.new) }
-    ensures runs { IsTrue S.tells → IsTrue H.tells → (world : World) → EachHolds (H.state host.old) world → Runs
+    ensures runs { IsTrue S.tells → IsTrue H.tells → (world : World) → ReadsAs (H.state host.old) world → RunsWhole
         (supply (S.left input.old) (S.taken input.old) (S.faults input.old)) (supply (S.left input.new) (S.taken input.new) (S.faults input.new))
         world (met_at result.met) result.outcome (H.state host.old) (H.state host.new) }
     ensures sound { IsTrue H.tells → WasSound result.outcome (H.state host.old).folder }

@@ -1,4 +1,6 @@
+use Rattle.std.proofs.Common.{true, false}
 use Rattle.aria_engine.proofs.Settling.{unchanged_keeps, keeps_then, settled_cause}
+use Rattle.aria_engine.proofs.Opening.{opens_then}
 use Rattle.aria_engine.proofs.open.resume.Goals as goal
 
 pub returns-in-Err-clause-keeps : goal.returns-in-Err-clause-keeps
@@ -33,3 +35,29 @@ returns-in-Ok-start-clause-keeps g c = λ told.
     keeps_then s0 s2 s3
     (keeps_then s0 s1 s2 (c.in_ok-settle.ensures.keeps told) (unchanged_keeps s1 s2 (λ f b left. g.met.H.Host.only_now c.settle.new.host f b told left) (c.recover.ensures.same told)))
     (c.start.ensures.keeps told)
+
+pub returns-in-Err-clause-opens : goal.returns-in-Err-clause-opens
+returns-in-Err-clause-opens g c = λ told.
+    let s0 = g.H.Host.state c.args.host.now in
+    let s1 = g.H.Host.state c.settle.new.host in
+    let s2 = g.H.Host.state c.recover.new.host in
+    opens_then s0 s1 s2 false (c.in_ok-settle.ensures.keeps told).silent.out (c.in_ok-settle.ensures.opens told)
+    (unchanged_keeps s1 s2 (λ f b left. g.met.H.Host.only_now c.settle.new.host f b told left) (c.recover.ensures.same told))
+
+pub returns-in-Err-start-clause-opens : goal.returns-in-Err-start-clause-opens
+returns-in-Err-start-clause-opens g c = λ told.
+    let s0 = g.H.Host.state c.args.host.now in
+    let s1 = g.H.Host.state c.settle.new.host in
+    let s2 = g.H.Host.state c.recover.new.host in
+    let s3 = g.H.Host.state c.start.new.host in
+    opens_then s0 s1 s3 false (c.in_ok-settle.ensures.keeps told).silent.out (c.in_ok-settle.ensures.opens told)
+    (keeps_then s1 s2 s3 (unchanged_keeps s1 s2 (λ f b left. g.met.H.Host.only_now c.settle.new.host f b told left) (c.recover.ensures.same told)) (c.start.ensures.keeps told))
+
+pub returns-in-Ok-start-clause-opens : goal.returns-in-Ok-start-clause-opens
+returns-in-Ok-start-clause-opens g c = λ told.
+    let s0 = g.H.Host.state c.args.host.now in
+    let s1 = g.H.Host.state c.settle.new.host in
+    let s2 = g.H.Host.state c.recover.new.host in
+    let s3 = g.H.Host.state c.start.new.host in
+    opens_then s0 s1 s3 true (c.in_ok-settle.ensures.keeps told).silent.out (c.in_ok-settle.ensures.opens told)
+    (keeps_then s1 s2 s3 (unchanged_keeps s1 s2 (λ f b left. g.met.H.Host.only_now c.settle.new.host f b told left) (c.recover.ensures.same told)) (c.start.ensures.keeps told))

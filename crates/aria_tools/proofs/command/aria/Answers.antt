@@ -1,13 +1,14 @@
-use Rattle.std.proofs.Common.{◌∙◌, sym, subst, arith}
+use Rattle.std.proofs.Common.{◌∙◌, ◌⊎◌, sym, subst, arith}
 use Rattle.aria_host.specs.Folder.{Folder}
 use Rattle.aria_model.specs.Script.{lines_of, statements, world_after}
 use Rattle.aria_model.specs.Journal.{met_at}
 use Rattle.aria_engine.specs.Holds.{Holds}
 use Rattle.aria_engine.specs.Done.{Leaves}
 use Rattle.aria_host.proofs.Moments.{weakened}
-use Rattle.aria_tools.specs.Endings.{Prefix}
+use Rattle.aria_engine.proofs.Opening.{each_reads}
+use Rattle.aria_tools.specs.Endings.{Began, Prefix, BeganOrPrefix}
 use Rattle.aria_tools.specs.Pieces.{supply}
-use Rattle.aria_tools.proofs.Commands.{leaves_prefix, moments_after, refused_is, all_answered, ended_ok, ended_answered, full_answered, front_told, text_is, text_after, completes, sound_where}
+use Rattle.aria_tools.proofs.Commands.{began_or_prefix, each_prefix, moments_after, refused_is, all_answered, ended_ok, ended_answered, full_answered, front_told, text_is, text_after, completes, sound_where}
 use Rattle.aria_tools.proofs.command.aria.Goals as goal
 
 pub returns-clause-any_moment : goal.returns-clause-any_moment
@@ -16,41 +17,64 @@ returns-clause-any_moment g c to ti world each =
     let mid = g.H.Host.state c.run-ran.new.host in
     let now = g.H.Host.state c.end.new.host in
     let lines = lines_of (g.S.Source.left c.args.input.now) in
-    moments_after (Prefix world lines (met_at c.run-ran.result.met) old.out) old mid now
+    let xs = met_at c.run-ran.result.met in
+    let reads = each_reads old world (g.met.H.Host.reads_now c.args.host.now to) each in
+    moments_after (Prefix world lines xs old.out) old mid now
     (λ f low leaves. g.met.H.Host.counts_now c.run-ran.new.host old.moment f to low leaves)
-    (weakened old mid (Leaves world lines (met_at c.run-ran.result.met) old.out) (Prefix world lines (met_at c.run-ran.result.met) old.out)
-    (c.run-ran.ensures.runs ti to world each).moments (leaves_prefix world lines (met_at c.run-ran.result.met) old.out))
+    (weakened old mid (λ f t. Began old f t ⊎ Leaves world lines xs old.out f t) (Prefix world lines xs old.out)
+    (c.run-ran.ensures.runs ti to world reads).moments (each_prefix old world lines xs each))
+    (c.end.ensures.only to)
+
+pub returns-clause-any_moment_read : goal.returns-clause-any_moment_read
+returns-clause-any_moment_read g c to ti world reads =
+    let old = g.H.Host.state c.args.host.now in
+    let mid = g.H.Host.state c.run-ran.new.host in
+    let now = g.H.Host.state c.end.new.host in
+    let lines = lines_of (g.S.Source.left c.args.input.now) in
+    let xs = met_at c.run-ran.result.met in
+    moments_after (BeganOrPrefix old world lines xs) old mid now
+    (λ f low leaves. g.met.H.Host.counts_now c.run-ran.new.host old.moment f to low leaves)
+    (weakened old mid (λ f t. Began old f t ⊎ Leaves world lines xs old.out f t) (BeganOrPrefix old world lines xs)
+    (c.run-ran.ensures.runs ti to world reads).moments (began_or_prefix old world lines xs))
     (c.end.ensures.only to)
 
 pub returns-clause-done_refused : goal.returns-clause-done_refused
-returns-clause-done_refused g c low ti to world each =
+returns-clause-done_refused g c low ti to world reads =
     refused_is (supply (g.S.Source.left c.args.input.now) (g.S.Source.taken c.args.input.now) (g.S.Source.faults c.args.input.now))
     (supply (g.S.Source.left c.run-ran.new.input) (g.S.Source.taken c.run-ran.new.input) (g.S.Source.faults c.run-ran.new.input))
     world (met_at c.run-ran.result.met) c.run-ran.result.outcome c.end.result (g.H.Host.state c.args.host.now) (g.H.Host.state c.run-ran.new.host)
-    c.end.ensures.status low (c.run-ran.ensures.runs ti to world each)
+    c.end.ensures.status low (c.run-ran.ensures.runs ti to world reads)
 
-pub returns-clause-done_holds : goal.returns-clause-done_holds
-returns-clause-done_holds g c low ti to world each =
+pub returns-clause-done_told : goal.returns-clause-done_told
+returns-clause-done_told g c low ti to world reads =
     let ok = ended_ok c.run-ran.result.outcome c.end.result c.end.ensures.status low in
     let all = all_answered (supply (g.S.Source.left c.args.input.now) (g.S.Source.taken c.args.input.now) (g.S.Source.faults c.args.input.now))
     (supply (g.S.Source.left c.run-ran.new.input) (g.S.Source.taken c.run-ran.new.input) (g.S.Source.faults c.run-ran.new.input))
-    world (met_at c.run-ran.result.met) c.run-ran.result.outcome ok.0 (g.H.Host.state c.args.host.now) (g.H.Host.state c.run-ran.new.host) ok.1 (c.run-ran.ensures.runs ti to world each) in
+    world (met_at c.run-ran.result.met) c.run-ran.result.outcome ok.0 (g.H.Host.state c.args.host.now) (g.H.Host.state c.run-ran.new.host) ok.1 (c.run-ran.ensures.runs ti to world reads) in
+    (c.end.ensures.only to).out ∙ all.out
+
+pub returns-clause-done_holds : goal.returns-clause-done_holds
+returns-clause-done_holds g c low ti to world reads =
+    let ok = ended_ok c.run-ran.result.outcome c.end.result c.end.ensures.status low in
+    let all = all_answered (supply (g.S.Source.left c.args.input.now) (g.S.Source.taken c.args.input.now) (g.S.Source.faults c.args.input.now))
+    (supply (g.S.Source.left c.run-ran.new.input) (g.S.Source.taken c.run-ran.new.input) (g.S.Source.faults c.run-ran.new.input))
+    world (met_at c.run-ran.result.met) c.run-ran.result.outcome ok.0 (g.H.Host.state c.args.host.now) (g.H.Host.state c.run-ran.new.host) ok.1 (c.run-ran.ensures.runs ti to world reads) in
     let same = (c.end.ensures.only to).folder in
     subst (λ (f : Folder). Holds f (world_after world (statements (lines_of (g.S.Source.left c.args.input.now))) (met_at c.run-ran.result.met))) (sym same) all.holds
 
 pub returns-clause-input_fault_told : goal.returns-clause-input_fault_told
-returns-clause-input_fault_told g c six ti to world each =
+returns-clause-input_fault_told g c six ti to world reads =
     ended_answered (supply (g.S.Source.left c.args.input.now) (g.S.Source.taken c.args.input.now) (g.S.Source.faults c.args.input.now))
     (supply (g.S.Source.left c.run-ran.new.input) (g.S.Source.taken c.run-ran.new.input) (g.S.Source.faults c.run-ran.new.input))
     world (met_at c.run-ran.result.met) c.run-ran.result.outcome c.end.result (g.H.Host.state c.args.host.now) (g.H.Host.state c.run-ran.new.host) (g.H.Host.state c.end.new.host)
-    c.end.ensures.status six (c.run-ran.ensures.runs ti to world each) (c.end.ensures.only to).out
+    c.end.ensures.status six (c.run-ran.ensures.runs ti to world reads) (c.end.ensures.only to).out
 
 pub returns-clause-too_long_told : goal.returns-clause-too_long_told
-returns-clause-too_long_told g c eight ti to world each =
+returns-clause-too_long_told g c eight ti to world reads =
     full_answered (supply (g.S.Source.left c.args.input.now) (g.S.Source.taken c.args.input.now) (g.S.Source.faults c.args.input.now))
     (supply (g.S.Source.left c.run-ran.new.input) (g.S.Source.taken c.run-ran.new.input) (g.S.Source.faults c.run-ran.new.input))
     world (met_at c.run-ran.result.met) c.run-ran.result.outcome c.end.result (g.H.Host.state c.args.host.now) (g.H.Host.state c.run-ran.new.host) (g.H.Host.state c.end.new.host)
-    c.end.ensures.status eight (c.run-ran.ensures.runs ti to world each) (c.end.ensures.only to).out
+    c.end.ensures.status eight (c.run-ran.ensures.runs ti to world reads) (c.end.ensures.only to).out
 
 pub returns-clause-error_text : goal.returns-clause-error_text
 returns-clause-error_text g c to =
@@ -66,20 +90,20 @@ returns-clause-error_text g c to =
     )
 
 pub returns-clause-part_told : goal.returns-clause-part_told
-returns-clause-part_told g c not_2 ti to world each =
+returns-clause-part_told g c not_2 ti to world reads =
     let front = front_told (supply (g.S.Source.left c.args.input.now) (g.S.Source.taken c.args.input.now) (g.S.Source.faults c.args.input.now))
     (supply (g.S.Source.left c.run-ran.new.input) (g.S.Source.taken c.run-ran.new.input) (g.S.Source.faults c.run-ran.new.input))
-    world (met_at c.run-ran.result.met) c.run-ran.result.outcome (g.H.Host.state c.args.host.now) (g.H.Host.state c.run-ran.new.host) (c.run-ran.ensures.runs ti to world each) in
+    world (met_at c.run-ran.result.met) c.run-ran.result.outcome (g.H.Host.state c.args.host.now) (g.H.Host.state c.run-ran.new.host) (c.run-ran.ensures.runs ti to world reads) in
     (front.0, (c.end.ensures.only to).out ∙ front.1)
 
 pub returns-clause-complete : goal.returns-clause-complete
-returns-clause-complete g c run ti to world each short disk tell input =
+returns-clause-complete g c run ti to world reads short disk tell input =
     completes g.H.Host.tells g.S.Source.tells (supply (g.S.Source.left c.args.input.now) (g.S.Source.taken c.args.input.now) (g.S.Source.faults c.args.input.now))
     (supply (g.S.Source.left c.run-ran.new.input) (g.S.Source.taken c.run-ran.new.input) (g.S.Source.faults c.run-ran.new.input))
     world (met_at c.run-ran.result.met) c.run-ran.result.outcome c.end.result
     (g.H.Host.state c.args.host.now) (g.H.Host.state c.run-ran.new.host) (g.H.Host.state c.end.new.host) to
-    (each (g.H.Host.state c.args.host.now).folder (g.met.H.Host.reads_now c.args.host.now to))
-    c.run-ran.ensures.ends (c.run-ran.ensures.runs ti to world each) c.end.ensures.status short disk tell input
+    reads.holds
+    c.run-ran.ensures.ends (c.run-ran.ensures.runs ti to world reads) c.end.ensures.status short disk tell input
     (omega (arith, c.end.ensures.disk)) c.end.ensures.later
 
 pub returns-clause-sound : goal.returns-clause-sound

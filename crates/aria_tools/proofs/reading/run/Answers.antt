@@ -1,8 +1,12 @@
+use Rattle.std.proofs.Common.{Err, refl, sym, subst}
 use Rattle.aria_engine.specs.Store.{tables_of}
 use Rattle.aria_engine.proofs.Running.{holds_one}
 use Rattle.aria_model.specs.Journal.{met_at}
+use Rattle.aria_tools.specs.declared.stop.Stop.{Stop}
+use Rattle.aria_tools.specs.Stops.{stop_of}
+use Rattle.aria_tools.specs.Endings.{RunsWhole}
 use Rattle.aria_tools.specs.Pieces.{supply}
-use Rattle.aria_tools.proofs.Commands.{ends_after, runs_after, was_sound}
+use Rattle.aria_tools.proofs.Commands.{ends_after, runs_after, runs_never, opening_answers, was_sound}
 use Rattle.aria_tools.proofs.reading.run.Goals as goal
 
 pub returns-in-Ok-clause-ends : goal.returns-in-Ok-clause-ends
@@ -13,15 +17,25 @@ returns-in-Ok-clause-ends g c =
     c.in-Ok.ensures.calm c.run_store.ensures.runs.sound c.run_store.ensures.runs.ends
 
 pub returns-in-Ok-clause-runs : goal.returns-in-Ok-clause-runs
-returns-in-Ok-clause-runs g c ti to world each =
+returns-in-Ok-clause-runs g c ti to world reads =
     let supply0 = supply (g.S.Source.left c.args.input.now) (g.S.Source.taken c.args.input.now) (g.S.Source.faults c.args.input.now) in
     let supply1 = supply (g.S.Source.left c.run_store.new.input) (g.S.Source.taken c.run_store.new.input) (g.S.Source.faults c.run_store.new.input) in
     let old = g.H.Host.state c.args.host.now in
     let mid = g.H.Host.state c.open.new.host in
-    let is = holds_one old.folder (tables_of c.in-Ok.store) world (c.in-Ok.ensures.holds to) (each old.folder (g.met.H.Host.reads_now c.args.host.now to)) in
+    let is = holds_one old.folder (tables_of c.in-Ok.store) world (c.in-Ok.ensures.holds to) reads.holds in
     runs_after supply0 supply1 world (tables_of c.in-Ok.store) (met_at c.run_store.result.met) c.run_store.result.outcome old mid (g.H.Host.state c.run_store.new.host)
-    is (c.in-Ok.ensures.silent to).out (c.in-Ok.ensures.moments to world each)
-    (c.run_store.ensures.runs.runs ti to (λ f leaves. (c.in-Ok.ensures.each to world each f leaves).alone))
+    is (c.in-Ok.ensures.silent to).out ((c.in-Ok.ensures.opens to).moments world reads)
+    (c.run_store.ensures.runs.runs ti to (λ f leaves. ((c.in-Ok.ensures.opens to).each world reads refl f leaves).alone))
 
 pub returns-in-Ok-clause-sound : goal.returns-in-Ok-clause-sound
 returns-in-Ok-clause-sound g c to = was_sound c.run_store.result.outcome (g.H.Host.state c.args.host.now).folder (tables_of c.in-Ok.store) (c.in-Ok.ensures.holds to)
+
+pub returns-in-Err-clause-runs : goal.returns-in-Err-clause-runs
+returns-in-Err-clause-runs g c ti to world reads =
+    let supply0 = supply (g.S.Source.left c.args.input.now) (g.S.Source.taken c.args.input.now) (g.S.Source.faults c.args.input.now) in
+    let old = g.H.Host.state c.args.host.now in
+    let now = g.H.Host.state c.open.new.host in
+    let xs = met_at c.new.result in
+    subst (λ (stop : Stop). RunsWhole supply0 supply0 world xs (Err stop) old now) (sym c.from.ensures)
+    (runs_never supply0 supply0 world xs (stop_of c.in-Err.fault) old now (c.in-Err.ensures.silent to).out
+    (opening_answers g.H.Host.tells c.in-Err.fault supply0 supply0 world xs old now c.in-Err.ensures.cause) ((c.in-Err.ensures.opens to).moments world reads))
