@@ -597,18 +597,26 @@ fn fates_of(alloc: Global, kind: usize) -> Result<List<Fate>, AllocError> {
     Ok(fates)
 }
 
-// Whether a run now tells what is selected after some of the three statements, no fewer than so many.
-fn holds_a_front(alloc: Global, host: &mut MemHost, acked: usize) -> Result<bool, AllocError> {
+// After how many of the three statements a run now tells what is selected, if that is no fewer than so many.
+fn front_held(
+    alloc: Global,
+    host: &mut MemHost,
+    acked: usize,
+) -> Result<Option<usize>, AllocError> {
     let before = Bytes::from_slice(alloc, host.told(Stream::Out))?;
     run_on(alloc, host, b"select t k")?;
     for count in acked..4 {
         let mut told = Bytes::from_slice(alloc, before.as_slice())?;
         told.extend_from_slice(selected(count))?;
         if host.told(Stream::Out) == told.as_slice() {
-            return Ok(true);
+            return Ok(Some(count));
         }
     }
-    Ok(false)
+    Ok(None)
+}
+
+fn holds_a_front(alloc: Global, host: &mut MemHost, acked: usize) -> Result<bool, AllocError> {
+    Ok(front_held(alloc, host, acked)?.is_some())
 }
 
 // Whether a front is left where the run is stopped at a call, and a crash then has fates of this kind.
@@ -632,6 +640,36 @@ fn survives_twice(alloc: Global, stop: u64, again: u64, kind: usize) -> Result<b
     run_on(alloc, &mut host, b"")?;
     host.crash(&fates_of(alloc, kind)?)?;
     holds_a_front(alloc, &mut host, acked)
+}
+
+// Whether a run behind one that was stopped at a call, while the machine went on, tells a front that is left where a
+// crash then has fates of this kind.
+fn survives_a_kill(alloc: Global, stop: u64, kind: usize) -> Result<bool, AllocError> {
+    let mut host = roomy_host(alloc)?;
+    host.stop_at(stop);
+    run_on(alloc, &mut host, THREE_STATEMENTS)?;
+    host.stop_at(u64::MAX);
+    let acked = lines_in(host.told(Stream::Out));
+    match front_held(alloc, &mut host, acked)? {
+        None => Ok(false),
+        Some(count) => {
+            host.crash(&fates_of(alloc, kind)?)?;
+            Ok(front_held(alloc, &mut host, count)? == Some(count))
+        }
+    }
+}
+
+#[test]
+fn what_is_told_behind_a_kill_survives_a_crash(rt: HostRuntime) -> Result<(), Fail> {
+    for stop in 0..16 {
+        for kind in 0..8 {
+            assert!(rt;
+                survives_a_kill(rt.alloc(), stop, kind)?,
+                "stopped at {stop}, fates {kind}"
+            );
+        }
+    }
+    Ok(())
 }
 
 #[test]
