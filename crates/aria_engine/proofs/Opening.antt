@@ -10,7 +10,7 @@ use Rattle.aria_host.proofs.Moments.{started, goes_on, joined}
 use Rattle.aria_log.specs.Log.{log_file, log_pages}
 use Rattle.aria_log.proofs.Writing.{OnlyNow}
 use Rattle.aria_model.specs.World.{World}
-use Rattle.aria_engine.specs.Holds.{Holds, EachHolds, ReadsAs}
+use Rattle.aria_engine.specs.Holds.{Holds, EachHolds, EachHoldsSome, ReadsAs}
 use Rattle.aria_engine.specs.Store.{StillHolds, OpensAs}
 use Rattle.aria_engine.specs.Opening.{Keeps, Opens}
 use Rattle.aria_engine.proofs.Settling.{nothing_of, same_log}
@@ -18,6 +18,9 @@ use Rattle.aria_engine.proofs.Settling.{nothing_of, same_log}
 -- what each image holds, the folder reads as
 pub each_reads : (s : State) (w : World) → s.may_leave s.folder → EachHolds s w → ReadsAs s w
 each_reads s w reads each = record { holds = each s.folder reads; alone = λ c leaves. (each c leaves).alone }
+
+pub some_reads : (s : State) (reads : s.may_leave s.folder) (each : EachHoldsSome s) → ReadsAs s (each s.folder reads).0
+some_reads s reads each = record { holds = (each s.folder reads).1; alone = λ c leaves. (each c leaves).1.alone }
 
 -- one call that tells nothing
 one_opens : (old new : State) (done : Bool) → OnlyNow old → TellsNothing old new → ((w : World) → ReadsAs old w → (c : Folder) → new.may_leave c → old.may_leave c ⊎ Holds c w)

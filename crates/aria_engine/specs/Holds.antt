@@ -32,6 +32,14 @@ pub record Holds (folder : Folder) (world : World) : Type 0 where
 abbrev pub EachHolds : State → World → Type 0
 EachHolds s world = (c : Folder) → s.may_leave c → Holds c world
 
+-- the folder holds some tables
+abbrev pub HoldsSome : Folder → Type 0
+HoldsSome folder = (world : World) × Holds folder world
+
+-- each folder that a crash now may leave holds some tables, which need not be those of another
+abbrev pub EachHoldsSome : State → Type 0
+EachHoldsSome s = (c : Folder) → s.may_leave c → HoldsSome c
+
 -- each of them has no file but the log's
 abbrev pub AreLogAlone : State → Type 0
 AreLogAlone s = (c : Folder) → s.may_leave c → IsLogAlone c

@@ -9,8 +9,8 @@ use Rattle.aria_host.specs.declared.fault.Fault.{Fault}
 use Rattle.aria_host.specs.declared.fault.Fault.TheVariants as faults
 use Rattle.aria_host.proofs.Moments.{joined, weakened}
 use Rattle.aria_model.specs.World.{World}
-use Rattle.aria_model.specs.Script.{Exceptions, lines_of, ended_lines, told, any_refused, acknowledged}
-use Rattle.aria_engine.specs.Holds.{Holds, EachHolds, IsDamage}
+use Rattle.aria_model.specs.Script.{Exceptions, lines_of, ended_lines, after, told, any_refused, acknowledged}
+use Rattle.aria_engine.specs.Holds.{Holds, HoldsSome, EachHolds, EachHoldsSome, IsDamage}
 use Rattle.aria_engine.specs.Store.{SameFaults, OpensAs, HasOpenCause}
 use Rattle.aria_engine.specs.Done.{Leaves}
 use Rattle.aria_engine.proofs.Leaving.{leaves_none}
@@ -97,6 +97,11 @@ opening_answers to (faults.NotOurs file) s0 s1 w xs h h0 cause = tt
 pub began_or_prefix : (h : State) (w : World) (lines : List (List ℕ)) (xs : Exceptions) (c : Folder) (t : List ℕ) → Began h c t ⊎ Leaves w lines xs h.out c t → BeganOrPrefix h w lines xs c t
 began_or_prefix h w lines xs c t (inl was) = inl was
 began_or_prefix h w lines xs c t (inr leaves) = inr (leaves_prefix w lines xs h.out c t leaves)
+
+-- where each folder that a crash might have left as the run began holds some tables, it holds some
+pub each_some : (h : State) (w : World) (lines : List (List ℕ)) (xs : Exceptions) → EachHoldsSome h → (c : Folder) (t : List ℕ) → Began h c t ⊎ Leaves w lines xs h.out c t → HoldsSome c
+each_some h w lines xs each c t (inl was) = each c was.0
+each_some h w lines xs each c t (inr leaves) = (after w lines xs leaves.count, leaves.holds)
 
 -- where each folder that a crash might have left as the run began holds the tables, it is one with them
 pub each_prefix : (h : State) (w : World) (lines : List (List ℕ)) (xs : Exceptions) → EachHolds h w → (c : Folder) (t : List ℕ) → Began h c t ⊎ Leaves w lines xs h.out c t → Prefix w lines xs h.out c t

@@ -8,7 +8,7 @@ ghost use Rattle.aria_log.specs.Log.{log_file};
 ghost use Rattle.aria_model.specs.World.{World};
 ghost use Rattle.aria_model.specs.Script.{any_refused, lines_of, statements, told, world_after};
 ghost use Rattle.aria_model.specs.Journal.{met_at};
-ghost use Rattle.aria_engine.specs.Holds.{EachHolds, ReadsAs, Holds, AtRest, IsSettled};
+ghost use Rattle.aria_engine.specs.Holds.{EachHolds, EachHoldsSome, HoldsSome, ReadsAs, Holds, AtRest, IsSettled};
 ghost use Rattle.aria_engine.specs.Store.{SameFaults};
 ghost use Rattle.aria_engine.specs.Done.{IsFull};
 ghost use Rattle.aria_tools.specs.Endings.{AnswersEnded, AnswersFull, BeganOrPrefix, Counts, IsStatus, Prefix, TellsStatus};
@@ -51,6 +51,10 @@ pub fn aria<H: Host, S: Source>(
     // nothing told, or the tables after the first k statements, on those that the folder read as.
     ensures any_moment_read { IsTrue H.tells → IsTrue S.tells → (world : World) → ReadsAs (H.state host.old) world
         → LeavesOnly (H.state host.old) (H.state host.new) (BeganOrPrefix (H.state host.old) world (lines_of (S.left input.old)) (met_at result.met)) }
+
+    // Where each folder that a crash might have left held some tables, each holds some at every moment. So the next run
+    // begins so too, however this one ends.
+    ensures any_moment_held { IsTrue H.tells → IsTrue S.tells → EachHoldsSome (H.state host.old) → LeavesOnly (H.state host.old) (H.state host.new) (λ c b. HoldsSome c) }
 
     // A statement is refused for want of room in the log only where the statements before it can have filled it.
     ensures met { IsTrue S.tells → IsTrue H.tells → All (IsFull (lines_of (S.left input.old)) 0 (page_count log_file (H.state host.old).folder)) result.met }

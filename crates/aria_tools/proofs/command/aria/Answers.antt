@@ -2,13 +2,13 @@ use Rattle.std.proofs.Common.{◌∙◌, ◌⊎◌, sym, subst, arith}
 use Rattle.aria_host.specs.Folder.{Folder}
 use Rattle.aria_model.specs.Script.{lines_of, statements, world_after}
 use Rattle.aria_model.specs.Journal.{met_at}
-use Rattle.aria_engine.specs.Holds.{Holds}
+use Rattle.aria_engine.specs.Holds.{Holds, HoldsSome}
 use Rattle.aria_engine.specs.Done.{Leaves}
 use Rattle.aria_host.proofs.Moments.{weakened}
-use Rattle.aria_engine.proofs.Opening.{each_reads}
+use Rattle.aria_engine.proofs.Opening.{each_reads, some_reads}
 use Rattle.aria_tools.specs.Endings.{Began, Prefix, BeganOrPrefix}
 use Rattle.aria_tools.specs.Pieces.{supply}
-use Rattle.aria_tools.proofs.Commands.{began_or_prefix, each_prefix, moments_after, refused_is, all_answered, ended_ok, ended_answered, full_answered, front_told, text_is, text_after, completes, sound_where}
+use Rattle.aria_tools.proofs.Commands.{began_or_prefix, each_prefix, each_some, moments_after, refused_is, all_answered, ended_ok, ended_answered, full_answered, front_told, text_is, text_after, completes, sound_where}
 use Rattle.aria_tools.proofs.command.aria.Goals as goal
 
 pub returns-clause-any_moment : goal.returns-clause-any_moment
@@ -36,6 +36,21 @@ returns-clause-any_moment_read g c to ti world reads =
     (λ f low leaves. g.met.H.Host.counts_now c.run-ran.new.host old.moment f to low leaves)
     (weakened old mid (λ f t. Began old f t ⊎ Leaves world lines xs old.out f t) (BeganOrPrefix old world lines xs)
     (c.run-ran.ensures.runs ti to world reads).moments (began_or_prefix old world lines xs))
+    (c.end.ensures.only to)
+
+pub returns-clause-any_moment_held : goal.returns-clause-any_moment_held
+returns-clause-any_moment_held g c to ti each =
+    let old = g.H.Host.state c.args.host.now in
+    let mid = g.H.Host.state c.run-ran.new.host in
+    let now = g.H.Host.state c.end.new.host in
+    let lines = lines_of (g.S.Source.left c.args.input.now) in
+    let xs = met_at c.run-ran.result.met in
+    let reads_now = g.met.H.Host.reads_now c.args.host.now to in
+    let world = (each old.folder reads_now).0 in
+    moments_after (λ f t. HoldsSome f) old mid now
+    (λ f low leaves. g.met.H.Host.counts_now c.run-ran.new.host old.moment f to low leaves)
+    (weakened old mid (λ f t. Began old f t ⊎ Leaves world lines xs old.out f t) (λ f t. HoldsSome f)
+    (c.run-ran.ensures.runs ti to world (some_reads old reads_now each)).moments (each_some old world lines xs each))
     (c.end.ensures.only to)
 
 pub returns-clause-done_refused : goal.returns-clause-done_refused
