@@ -308,6 +308,10 @@ tells_text 'the run after changes of every kind' $'row -3,x\'00ff\'\nrow 7,\'a\'
 [[ $(stat -c %s "$log") -eq $((7 * 8192)) ]] ||
     fail 'changes of every kind: the log has not a page for each line that changed the tables'
 
+# Random scripts, against a second reading of the manual: about ten seconds on a quiet processor. By hand
+# random_scripts.py takes other seeds and larger counts.
+python3 "$top/tests/random_scripts.py" aria 1 200 > told 2>&1 || fail "random scripts: $(head -c 2000 told)"
+
 # many runs in a folder
 fresh
 goes_on 'the first run' 0 '' create.aria run
