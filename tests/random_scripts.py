@@ -288,9 +288,9 @@ class Maker:
 def run_program(program, folder, script):
     """What the program tells, its status, and its line on standard error."""
     try:
-        ended = subprocess.run([program, "run"], cwd=folder, input=script, capture_output=True, timeout=60)
+        ended = subprocess.run([program, "run"], cwd=folder, input=script, capture_output=True, timeout=600)
     except subprocess.TimeoutExpired as late:
-        return late.stdout or b"", "none within 60 seconds", b""
+        return late.stdout or b"", "none within ten minutes", b""
     return ended.stdout, ended.returncode, ended.stderr
 
 
