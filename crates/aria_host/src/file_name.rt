@@ -1,8 +1,10 @@
-ghost use Rattle.std.specs.Prelude.{◌≡◌, ◌<◌, ◌^◌, IfOk, IfSome, ◌++◌};
+ghost use Rattle.std.specs.Prelude.{◌≡◌, ◌+◌, ◌<◌, ◌≤◌, ◌^◌, IfOk, IfSome, ◌++◌, length};
+ghost use Rattle.arrayvec.specs.ArrayVec.{array_vec_len};
 ghost use Rattle.aria_host.specs.Folder.{IsFileName, is_form, is_log, same_file};
 ghost use Rattle.aria_host.specs.FileText.{digit, eight_digits, log_text, file_text};
 
 use aria_page::{Bytes, Name};
+use arrayvec::ArrayVec;
 use std::alloc::{AllocError, Global};
 
 /// A file of the folder. No other file is ever touched.
@@ -21,6 +23,9 @@ pub enum FileName {
     /// The data file that a repair builds anew.
     NewRows(Name),
 }
+
+/// The most bytes of a file's name: a table's name has at most 64, and the end behind it 4.
+pub(crate) const TEXT_BYTES: usize = 68;
 
 /// Log files are numbered below this.
 const MAX_LOGS: u32 = 1 << 24;
@@ -60,12 +65,25 @@ fn eight_digits(number: u32) -> [u8; 8]
     ]
 }
 
-fn joined(alloc: Global, front: &[u8], back: &[u8]) -> Result<Bytes, AllocError>
-    ensures { IfOk result (λ text. text ≡ front.now ++ back.now) }
+// Adds the bytes behind a text that has room for them.
+fn add(text: &mut ArrayVec<u8, TEXT_BYTES>, bytes: &[u8])
+    requires { array_vec_len text.old + length bytes.now ≤ 68 }
+    ensures items { text.new.items ≡ text.old.items ++ bytes.now }
+    ensures len { array_vec_len text.new ≡ array_vec_len text.old + length bytes.now }
 {
-    let mut text = Bytes::from_slice(alloc, front)?;
-    text.extend_from_slice(back)?;
-    Ok(text)
+    let Ok(()) = text.try_extend_from_slice(bytes) else {
+        unreachable!();
+    };
+}
+
+fn joined(front: &[u8], back: &[u8]) -> ArrayVec<u8, TEXT_BYTES>
+    requires { length front.now + length back.now ≤ 68 }
+    ensures { result.items ≡ front.now ++ back.now }
+{
+    let mut text = ArrayVec::new();
+    add(&mut text, front);
+    add(&mut text, back);
+    text
 }
 
 // The number that these digits spell, if the eight digits of a number are these.
@@ -133,18 +151,25 @@ impl FileName {
         read_table(front, end)
     }
 
+    /// The file's name in the folder, in place.
+    pub(crate) fn text_in_place(&self) -> ArrayVec<u8, TEXT_BYTES>
+        ensures { result.items ≡ file_text self.now }
+    {
+        match self {
+            FileName::Control => joined(CONTROL, b""),
+            FileName::Log(number) => joined(LOG, &eight_digits(*number)),
+            FileName::Keys(name) => joined(name.as_slice(), KEYS),
+            FileName::Rows(name) => joined(name.as_slice(), ROWS),
+            FileName::NewKeys(name) => joined(name.as_slice(), NEW_KEYS),
+            FileName::NewRows(name) => joined(name.as_slice(), NEW_ROWS),
+        }
+    }
+
     /// The file's name in the folder.
     pub fn text(&self, alloc: Global) -> Result<Bytes, AllocError>
         ensures { IfOk result (λ text. text ≡ file_text self.now) }
     {
-        match self {
-            FileName::Control => Bytes::from_slice(alloc, CONTROL),
-            FileName::Log(number) => joined(alloc, LOG, &eight_digits(*number)),
-            FileName::Keys(name) => joined(alloc, name.as_slice(), KEYS),
-            FileName::Rows(name) => joined(alloc, name.as_slice(), ROWS),
-            FileName::NewKeys(name) => joined(alloc, name.as_slice(), NEW_KEYS),
-            FileName::NewRows(name) => joined(alloc, name.as_slice(), NEW_ROWS),
-        }
+        Bytes::from_slice(alloc, self.text_in_place().as_slice())
     }
 
     /// Whether the number of a log file is below 2^24.

@@ -1,12 +1,14 @@
-ghost use Rattle.std.specs.Prelude.{◌<◌, IfSome, IfOk, vec_len, All};
+ghost use Rattle.std.specs.Prelude.{◌<◌, IfSome, IfOk, All};
 ghost use Rattle.aria_host.specs.Folder.{IsFileName};
 
 use crate::FileName;
+use crate::file_name::TEXT_BYTES;
 use aria_page::{List, Page};
+use arrayvec::ArrayVec;
 use std::alloc::Global;
 use std::fs::{DirEntry, File, OpenOptions};
 use std::os::unix::fs::{FileExt, MetadataExt, OpenOptionsExt};
-use std::{fs, io};
+use std::{array, fs, io, str};
 
 /// The most files that are kept open.
 const MAX_OPEN: usize = 32;
@@ -24,18 +26,19 @@ struct Opened {
 }
 
 /// The files of the current folder. Up to `MAX_OPEN` of them stay open between calls.
+///
+/// Only the list of the folder's names takes memory: all the rest stands in place.
 #[derive(Drop)]
 pub(crate) struct OpenFiles {
     rt: HostRuntime,
-    opened: Vec<Opened>,
-    /// The place of the one that is closed next.
+    opened: [Option<Opened>; MAX_OPEN],
+    /// The place whose file is closed next, where no place is free.
     next: usize,
 }
 
-// The file's name in the folder.
-fn path_of(rt: &HostRuntime, name: &FileName) -> io::Result<String> {
-    let text = name.text(rt.alloc())?.into_vec();
-    match String::from_utf8(text) {
+// The name as a path.
+fn path_of(text: &ArrayVec<u8, TEXT_BYTES>) -> io::Result<&str> {
+    match str::from_utf8(text.as_slice()) {
         Ok(path) => Ok(path),
         Err(_) => Err(io::ErrorKind::InvalidInput.into()),
     }
@@ -87,50 +90,55 @@ impl OpenFiles {
     pub(crate) fn new(rt: &HostRuntime) -> OpenFiles {
         OpenFiles {
             rt: *rt,
-            opened: Vec::new(rt.alloc()),
+            opened: array::from_fn(|_| None),
             next: 0,
         }
     }
 
     // The place of an open file.
     fn place(&self, name: &FileName) -> Option<usize>
-        ensures { IfSome result (λ place. place < vec_len self.now.opened) }
+        ensures { IfSome result (λ place. place < 32) }
     {
-        self.opened
-            .iter()
-            .position(|opened| opened.name.is_same(name))
+        self.opened.iter().position(
+            |place| matches!(place, Some(opened) if opened.name.is_same(name)),
+        )
+    }
+
+    // A place with no file, or else the next place in turn.
+    fn free_place(&mut self) -> usize
+        ensures { result < 32 }
+    {
+        if let Some(place) = self.opened.iter().position(|place| place.is_none()) {
+            return place;
+        }
+        let place = self.next % MAX_OPEN;
+        self.next = place + 1;
+        place
     }
 
     // Keeps a file open, and says at which place. Another is closed where too many are open.
-    fn keep(&mut self, name: &FileName, file: File) -> io::Result<usize>
-        ensures { IfOk result (λ place. place < vec_len self.new.opened) }
+    fn keep(&mut self, name: &FileName, file: File) -> usize
+        ensures { result < 32 }
     {
-        let opened = Opened { name: *name, file };
-        let count = self.opened.len();
-        if count < MAX_OPEN {
-            self.opened.push(opened)?;
-            return Ok(count);
-        }
-        let place = self.next % count;
-        self.opened[place] = opened;
-        self.next = place + 1;
-        Ok(place)
+        let place = self.free_place();
+        self.opened[place] = Some(Opened { name: *name, file });
+        place
     }
 
     // Closes the file, if it is open.
     fn close(&mut self, name: &FileName) {
         if let Some(place) = self.place(name) {
-            self.opened.swap_remove(place);
+            self.opened[place] = None;
         }
     }
 
     // Opens the file, and says at which place it is kept.
     fn admit(&mut self, name: &FileName) -> io::Result<usize>
-        ensures { IfOk result (λ place. place < vec_len self.new.opened) }
+        ensures { IfOk result (λ place. place < 32) }
     {
-        let path = path_of(&self.rt, name)?;
-        let file = open(&self.rt, path.as_str())?;
-        self.keep(name, file)
+        let text = name.text_in_place();
+        let file = open(&self.rt, path_of(&text)?)?;
+        Ok(self.keep(name, file))
     }
 
     // The file, which is opened where it isn't open.
@@ -139,7 +147,11 @@ impl OpenFiles {
             Some(place) => place,
             None => self.admit(name)?,
         };
-        Ok(&self.opened[place].file)
+        let opened = &self.opened;
+        match &opened[place] {
+            Some(found) => Ok(&found.file),
+            None => Err(io::ErrorKind::NotFound.into()),
+        }
     }
 
     /// The names of the files of the forms of `FileName`.
@@ -157,8 +169,8 @@ impl OpenFiles {
 
     /// The length of the file in bytes, or `None` where it isn't there.
     pub(crate) fn length(&self, name: &FileName) -> io::Result<Option<u64>> {
-        let path = path_of(&self.rt, name)?;
-        match regular(&self.rt, path.as_str()) {
+        let text = name.text_in_place();
+        match regular(&self.rt, path_of(&text)?) {
             Ok(found) => Ok(Some(found.len())),
             Err(error) if error.kind() == io::ErrorKind::NotFound => Ok(None),
             Err(error) => Err(error),
@@ -187,25 +199,26 @@ impl OpenFiles {
 
     /// Makes an empty file, and brings its name to the disk.
     pub(crate) fn create(&mut self, name: &FileName) -> io::Result<()> {
-        let path = path_of(&self.rt, name)?;
+        let text = name.text_in_place();
         let file = OpenOptions::new()
             .read(true)
             .write(true)
             .create_new(true)
             .mode(0o644)
-            .open(&self.rt, path.as_str())?;
+            .open(&self.rt, path_of(&text)?)?;
         file.sync_all()?;
         self.close(name);
-        self.keep(name, file)?;
+        self.keep(name, file);
         sync_folder(&self.rt)
     }
 
     /// Removes the file, and brings that to the disk.
     pub(crate) fn remove(&mut self, name: &FileName) -> io::Result<()> {
-        let path = path_of(&self.rt, name)?;
-        regular(&self.rt, path.as_str())?;
+        let text = name.text_in_place();
+        let path = path_of(&text)?;
+        regular(&self.rt, path)?;
         self.close(name);
-        fs::remove_file(&self.rt, path.as_str())?;
+        fs::remove_file(&self.rt, path)?;
         sync_folder(&self.rt)
     }
 

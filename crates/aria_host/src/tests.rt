@@ -111,6 +111,56 @@ fn the_current_folder_keeps_files(rt: HostRuntime) -> Result<(), Fail> {
     Ok(())
 }
 
+// More log files than stay open: their numbers.
+const FIRST: u32 = 100;
+
+const LAST: u32 = 139;
+
+// Makes each file, with its number in the first page.
+fn make_many<H: Host>(host: &mut H) -> Result<(), Fault>
+    requires { IsTrue H.tells → ⊥ }
+{
+    for number in FIRST..=LAST {
+        let file = FileName::Log(number);
+        host.create(&file)?;
+        host.write_page(&file, 0, &page_of(number as u8))?;
+    }
+    Ok(())
+}
+
+// Whether each file has its number.
+fn read_many<H: Host>(host: &mut H) -> Result<bool, Fault>
+    requires { IsTrue H.tells → ⊥ }
+{
+    let mut page = Page::zero();
+    let mut kept = true;
+    for number in FIRST..=LAST {
+        host.read_page(&FileName::Log(number), 0, &mut page)?;
+        kept = kept && page.bytes()[100] == number as u8;
+    }
+    Ok(kept)
+}
+
+fn remove_many<H: Host>(host: &mut H) -> Result<(), Fault>
+    requires { IsTrue H.tells → ⊥ }
+{
+    for number in FIRST..=LAST {
+        host.remove(&FileName::Log(number))?;
+    }
+    Ok(())
+}
+
+#[test]
+fn more_files_are_kept_than_stay_open(rt: HostRuntime) -> Result<(), Fail> {
+    let mut host = DirHost::new(&rt);
+    assert!(rt; matches!(make_many(&mut host), Ok(())));
+    assert!(rt; matches!(read_many(&mut host), Ok(true)));
+    assert!(rt; matches!(read_many(&mut host), Ok(true)));
+    assert!(rt; matches!(remove_many(&mut host), Ok(())));
+    assert!(rt; matches!(host.look(&FileName::Log(FIRST)), Ok(None)));
+    Ok(())
+}
+
 // What stands at the marked place of a page of the journal.
 fn mark(host: &MemHost, page: u32) -> Option<u8> {
     Some(host.page(&JOURNAL, page)?.bytes()[100])
