@@ -7,12 +7,12 @@ use Rattle.aria_host.specs.Folder.{Folder}
 use Rattle.aria_host.specs.State.{State, LeavesOnly}
 use Rattle.aria_host.specs.Calls.{Tells}
 use Rattle.aria_host.proofs.Moments.{started, goes_on, joined, weakened}
-use Rattle.aria_log.specs.declared.log.Log.{Log as LogValue}
-use Rattle.aria_log.specs.Runs.{HoldsFrames, HoldsFrom}
-use Rattle.aria_log.specs.Log.{log_file, SameOthers, AtLog, LogMoments, LogKeeps, IsLog}
-use Rattle.aria_log.proofs.Writing.{OnlyNow, more_at_log}
-use Rattle.aria_log.proofs.Appending.{nothing_moves}
-use Rattle.aria_log.proofs.Keeping.{log_images, log_over_tell}
+use Rattle.aria_journal.specs.declared.log.Log.{Log as LogValue}
+use Rattle.aria_journal.specs.Runs.{HoldsFrames, HoldsFrom}
+use Rattle.aria_journal.specs.Log.{log_file, SameOthers, AtLog, LogMoments, LogKeeps, IsLog}
+use Rattle.aria_journal.proofs.Writing.{OnlyNow, more_at_log}
+use Rattle.aria_journal.proofs.Appending.{nothing_moves}
+use Rattle.aria_journal.proofs.Keeping.{log_images, log_over_tell}
 use Rattle.aria_engine.specs.Holds.{IsLogAlone, AreLogAlone}
 use Rattle.aria_engine.specs.Turns.{with_line, HoldsEither, LeavesLines, Completes}
 

@@ -14,7 +14,7 @@ use Rattle.aria_host.specs.FileText.{file_text}
 use Rattle.aria_host.specs.Folder.{Folder, IsFileName, same_file}
 use Rattle.aria_host.specs.Calls.{Lists}
 use Rattle.aria_host.proofs.Files.{same_file-refl, same_file-true}
-use Rattle.aria_log.specs.Log.{log_file}
+use Rattle.aria_journal.specs.Log.{log_file}
 use Rattle.aria_engine.specs.Holds.{IsLogAlone, IsFirstOther}
 use Rattle.aria_engine.specs.Opening.{IsFirst}
 

@@ -4,7 +4,7 @@ use Rattle.std.specs.Option.{option_map}
 use Rattle.std.proofs.lemmas.List.{length-take, length-map, take_more, take-append-drop}
 use Rattle.std.proofs.lemmas.Option.{slice_get-map, slice_get-get_or}
 use Rattle.std.proofs.Math.Seq.{drop-cons}
-use Rattle.aria_log.specs.declared.opened.Frame.{Frame}
+use Rattle.aria_journal.specs.declared.opened.Frame.{Frame}
 use Rattle.aria_model.specs.World.{World, empty_world}
 use Rattle.aria_model.specs.Step.{option_suc, step}
 use Rattle.aria_model.specs.Script.{no_exception, world_after}

@@ -7,11 +7,11 @@ use Rattle.aria_host.proofs.Files.{same_file-true}
 use Rattle.aria_host.specs.declared.file_name.FileName.{FileName}
 use Rattle.aria_host.specs.Folder.{Folder, same_file}
 use Rattle.aria_host.specs.State.{State}
-use Rattle.aria_log.specs.Front.{damaged_at, end_of}
-use Rattle.aria_log.specs.Log.{log_file, log_pages, log_of}
-use Rattle.aria_log.specs.Frames.{frame_bytes, frames_bytes}
-use Rattle.aria_log.specs.Runs.{IsRun, IsPartOf}
-use Rattle.aria_log.proofs.Keeping.{log_images}
+use Rattle.aria_journal.specs.Front.{damaged_at, end_of}
+use Rattle.aria_journal.specs.Log.{log_file, log_pages, log_of}
+use Rattle.aria_journal.specs.Frames.{frame_bytes, frames_bytes}
+use Rattle.aria_journal.specs.Runs.{IsRun, IsPartOf}
+use Rattle.aria_journal.proofs.Keeping.{log_images}
 use Rattle.aria_model.specs.World.{World, empty_world}
 use Rattle.aria_model.specs.Script.{no_exception, world_after}
 use Rattle.aria_model.specs.Journal.{first_no_change}

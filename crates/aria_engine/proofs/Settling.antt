@@ -8,7 +8,7 @@ use Rattle.std.specs.Prelude.{slice_get}
 use Rattle.aria_host.specs.declared.fault.Fault.{Fault}
 use Rattle.aria_host.specs.declared.fault.Fault.TheVariants.{Memory, Disk, Tell, Input, NotOurs, LogDamaged}
 use Rattle.aria_host.specs.Count.{Rose}
-use Rattle.aria_log.specs.Places.{frame_pages_of}
+use Rattle.aria_journal.specs.Places.{frame_pages_of}
 use Rattle.aria_host.specs.declared.host.Extent.{Extent}
 use Rattle.aria_host.specs.Folder.{Folder, page_count}
 use Rattle.aria_host.specs.State.{State, LeavesOnly}
@@ -16,12 +16,12 @@ use Rattle.aria_host.specs.Steps.{MayMake}
 use Rattle.aria_host.specs.Calls.{Creates, Syncs, Unchanged, TellsNothing, extent_of}
 use Rattle.aria_host.proofs.Files.{with_file-same, with_file-other}
 use Rattle.aria_host.proofs.Moments.{started, goes_on, joined, weakened}
-use Rattle.aria_log.specs.declared.log.Log.{Log as LogValue}
-use Rattle.aria_log.specs.Front.{front, frames_of_runs, runs, frames_of, end_of, begins_behind, damaged_at}
-use Rattle.aria_log.specs.Runs.{HoldsFrames}
-use Rattle.aria_log.specs.Log.{log_file, log_pages, log_of, AtLog, LogMoments, IsLog, IsLogAtRest, IsOpened, place}
-use Rattle.aria_log.proofs.Starting.{end_within}
-use Rattle.aria_log.proofs.Writing.{OnlyNow}
+use Rattle.aria_journal.specs.declared.log.Log.{Log as LogValue}
+use Rattle.aria_journal.specs.Front.{front, frames_of_runs, runs, frames_of, end_of, begins_behind, damaged_at}
+use Rattle.aria_journal.specs.Runs.{HoldsFrames}
+use Rattle.aria_journal.specs.Log.{log_file, log_pages, log_of, AtLog, LogMoments, IsLog, IsLogAtRest, IsOpened, place}
+use Rattle.aria_journal.proofs.Starting.{end_within}
+use Rattle.aria_journal.proofs.Writing.{OnlyNow}
 use Rattle.aria_model.specs.World.{World, empty_world}
 use Rattle.aria_model.specs.Journal.{first_no_change}
 use Rattle.aria_engine.specs.declared.store.Store.{Store}

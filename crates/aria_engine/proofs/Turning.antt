@@ -9,8 +9,8 @@ use Rattle.std.proofs.Math.Bool.{or-false}
 use Rattle.std.proofs.Math.Seq.{take-length}
 use Rattle.aria_host.specs.State.{Folder, State}
 use Rattle.aria_host.proofs.Moments.{started, weakened}
-use Rattle.aria_log.specs.Runs.{HoldsFrames}
-use Rattle.aria_log.specs.Log.{log_file, IsLog}
+use Rattle.aria_journal.specs.Runs.{HoldsFrames}
+use Rattle.aria_journal.specs.Log.{log_file, IsLog}
 use Rattle.aria_model.specs.declared.refusal.Exception.{Exception}
 use Rattle.aria_model.specs.declared.refusal.Met.{Met}
 use Rattle.aria_model.specs.World.{World, empty_world}

@@ -9,9 +9,9 @@ use Rattle.aria_host.specs.declared.fault.Fault.TheVariants.{NotOurs, LogDamaged
 use Rattle.aria_host.specs.FileText.{file_text}
 use Rattle.aria_host.specs.Folder.{Folder, IsFileName, same_file}
 use Rattle.aria_host.specs.State.{State}
-use Rattle.aria_log.specs.Front.{damaged_at, end_of}
-use Rattle.aria_log.specs.Places.{frame_pages_of}
-use Rattle.aria_log.specs.Log.{log_file, log_pages, log_of}
+use Rattle.aria_journal.specs.Front.{damaged_at, end_of}
+use Rattle.aria_journal.specs.Places.{frame_pages_of}
+use Rattle.aria_journal.specs.Log.{log_file, log_pages, log_of}
 use Rattle.aria_model.specs.World.{World, empty_world}
 use Rattle.aria_model.specs.Script.{no_exception, world_after}
 use Rattle.aria_model.specs.Journal.{first_no_change}

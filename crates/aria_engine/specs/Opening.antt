@@ -11,8 +11,8 @@ use Rattle.aria_host.specs.Count.{Rose}
 use Rattle.aria_host.specs.FileText.{file_text}
 use Rattle.aria_host.specs.Folder.{Folder, IsFileName, same_file}
 use Rattle.aria_host.specs.State.{State, LeavesOnly}
-use Rattle.aria_log.specs.Front.{damaged_at}
-use Rattle.aria_log.specs.Log.{log_file, log_pages, log_of, IsOpened}
+use Rattle.aria_journal.specs.Front.{damaged_at}
+use Rattle.aria_journal.specs.Log.{log_file, log_pages, log_of, IsOpened}
 use Rattle.aria_model.specs.World.{World, empty_world}
 use Rattle.aria_model.specs.Step.{step}
 use Rattle.aria_model.specs.Script.{no_exception, world_after}

@@ -4,7 +4,7 @@ use Rattle.aria_host.specs.declared.fault.Fault.{Fault}
 use Rattle.aria_host.specs.declared.fault.Fault.TheVariants.{Memory, Disk, Tell, Input, NotOurs, LogDamaged}
 use Rattle.aria_host.specs.Count.{Rose}
 use Rattle.aria_host.specs.State.{Folder, State}
-use Rattle.aria_log.specs.Log.{IsLog}
+use Rattle.aria_journal.specs.Log.{IsLog}
 use Rattle.aria_model.specs.World.{World, empty_world}
 use Rattle.aria_model.specs.declared.refusal.Exception.{Exception}
 use Rattle.aria_model.specs.Script.{no_exception, world_after}

@@ -2,10 +2,10 @@
 use Rattle.std.specs.Prelude.{◌≡◌, ◌⊎◌, ℕ, ◌+◌, ◌<◌, ◌≤◌, ◌==◌, nat_le, if◌then◌else◌, Bool, true, false, IsTrue, Option, Some, None, ⊤, List, [], ◌∷◌, ◌++◌, length, take}
 use Rattle.aria_host.specs.Folder.{Folder}
 use Rattle.aria_host.specs.State.{State, LeavesOnly}
-use Rattle.aria_log.specs.declared.log.Log.{Log as LogValue}
-use Rattle.aria_log.specs.Frames.{IsFrame}
-use Rattle.aria_log.specs.Runs.{HoldsFrames}
-use Rattle.aria_log.specs.Log.{log_file, IsLog}
+use Rattle.aria_journal.specs.declared.log.Log.{Log as LogValue}
+use Rattle.aria_journal.specs.Frames.{IsFrame}
+use Rattle.aria_journal.specs.Runs.{HoldsFrames}
+use Rattle.aria_journal.specs.Log.{log_file, IsLog}
 use Rattle.aria_model.specs.declared.refusal.Refusal.{Refusal}
 use Rattle.aria_model.specs.declared.refusal.Refusal.TheVariants.{LogSpent}
 use Rattle.aria_model.specs.declared.refusal.Exception.{Exception}

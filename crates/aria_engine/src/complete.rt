@@ -2,13 +2,13 @@
 
 ghost use Rattle.std.specs.Prelude.{◌≡◌, ◌≤◌, ◌<◌, ◌+◌, ◌/◌, ◌∷◌, ◌++◌, [], ℕ, List, length, true, IsTrue, OnOk, IfErr, is_ok};
 ghost use Rattle.aria_host.specs.Calls.{HasDiskCause};
-ghost use Rattle.aria_log.specs.Frames.{IsFrame};
-ghost use Rattle.aria_log.specs.Log.{IsLog, LogKeeps, LogMoments};
+ghost use Rattle.aria_journal.specs.Frames.{IsFrame};
+ghost use Rattle.aria_journal.specs.Log.{IsLog, LogKeeps, LogMoments};
 ghost use Rattle.aria_engine.specs.Store.{HasCause, SameFaults, NoFewerFaults};
 ghost use Rattle.aria_engine.specs.Turns.{file_pages, with_line, HoldsEither, Completes};
 
 use aria_host::{Fault, Host, Stream};
-use aria_log::Log;
+use aria_journal::Log;
 
 // Brings a line to the disk, as the last of the log.
 fn keep<H: Host>(log: &mut Log, host: &mut H, line: &[u8]) -> Result<(), Fault>

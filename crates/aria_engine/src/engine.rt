@@ -3,7 +3,7 @@
 ghost use Rattle.std.specs.Prelude.{◌≡◌, ◌≤◌, ◌∷◌, [], false, true, IfOk, IfErr, IfSome, IsErrOf, MatchResult, OnOk, OnErr, IsTrue, None, Some};
 ghost use Rattle.aria_host.specs.Folder.{page_count};
 ghost use Rattle.aria_host.specs.State.{LeavesOnly};
-ghost use Rattle.aria_log.specs.Log.{log_file};
+ghost use Rattle.aria_journal.specs.Log.{log_file};
 ghost use Rattle.aria_model.specs.Grammar.{is_blank_line};
 ghost use Rattle.aria_model.specs.World.{World};
 ghost use Rattle.aria_engine.specs.Done.{Does, DoesPart};

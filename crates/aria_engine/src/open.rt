@@ -4,8 +4,8 @@ ghost use Rattle.std.specs.Prelude.{◌≡◌, ◌≤◌, map, length, IfOk, IfE
 ghost use Rattle.aria_host.specs.Folder.{page_count};
 ghost use Rattle.aria_host.specs.State.{LeavesOnly};
 ghost use Rattle.aria_host.specs.Calls.{HasDiskCause, Unchanged};
-ghost use Rattle.aria_log.specs.declared.opened.Frame.{Frame};
-ghost use Rattle.aria_log.specs.Log.{log_file, log_pages, IsLogAtRest};
+ghost use Rattle.aria_journal.specs.declared.opened.Frame.{Frame};
+ghost use Rattle.aria_journal.specs.Log.{log_file, log_pages, IsLogAtRest};
 ghost use Rattle.aria_model.specs.World.{World};
 ghost use Rattle.aria_engine.specs.Holds.{Holds, EachHolds};
 ghost use Rattle.aria_engine.specs.Opening.{HasLogCause, HasReplayCause, HoldsLog, Keeps, Opens, Recovered, Replays, SameLog};
@@ -16,7 +16,7 @@ use crate::replay::replay;
 use crate::store::{FILE, Store};
 use crate::tally::Tally;
 use aria_host::{Fault, FileName, Host};
-use aria_log::{Frame, Log, Opened};
+use aria_journal::{Frame, Log, Opened};
 use aria_memory::Tables;
 use aria_page::Bytes;
 use std::alloc::Global;
@@ -65,7 +65,7 @@ fn recover<H: Host>(alloc: Global, host: &mut H) -> Result<Store, Fault>
     ensures calm { OnOk result (SameFaults (H.state host.old) (H.state host.new)) }
     ensures later { NoFewerFaults (H.state host.old) (H.state host.new) }
 {
-    match aria_log::open(alloc, host) {
+    match aria_journal::open(alloc, host) {
         Err(fault) => Err(fault),
         Ok(Opened::Damaged { page }) => Err(Fault::LogDamaged { file: FILE, page }),
         Ok(Opened::Sound(log, frames)) => rebuild(alloc, log, frames.as_slice()),

@@ -1,13 +1,13 @@
 //! Executes the lines of a log anew.
 
 ghost use Rattle.std.specs.Prelude.{◌≡◌, map, IfOk, MatchOption};
-ghost use Rattle.aria_log.specs.declared.opened.Frame.{Frame};
+ghost use Rattle.aria_journal.specs.declared.opened.Frame.{Frame};
 ghost use Rattle.aria_memory.specs.Worlds.{world_of};
 ghost use Rattle.aria_model.specs.World.{empty_world};
 ghost use Rattle.aria_engine.specs.Opening.{Redoes, Replays, FailsAt};
 
 use crate::changing::{change_of, is_changed};
-use aria_log::Frame;
+use aria_journal::Frame;
 use aria_memory::Tables;
 use aria_page::Bytes;
 use aria_statement::{ParseFault, parse};

@@ -1,6 +1,6 @@
 use crate::tally::Tally;
 use aria_host::Fault;
-use aria_log::Log;
+use aria_journal::Log;
 use aria_memory::Tables;
 use aria_page::Bytes;
 

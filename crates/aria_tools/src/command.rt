@@ -4,7 +4,7 @@ ghost use Rattle.std.specs.Prelude.{◌≡◌, ◌≢◌, ◌⊎◌, ◌↔◌, 
 ghost use Rattle.aria_host.specs.Count.{Rose};
 ghost use Rattle.aria_host.specs.Folder.{page_count};
 ghost use Rattle.aria_host.specs.State.{LeavesOnly};
-ghost use Rattle.aria_log.specs.Log.{log_file};
+ghost use Rattle.aria_journal.specs.Log.{log_file};
 ghost use Rattle.aria_model.specs.World.{World};
 ghost use Rattle.aria_model.specs.Script.{any_refused, lines_of, statements, told, world_after};
 ghost use Rattle.aria_model.specs.Journal.{met_at};

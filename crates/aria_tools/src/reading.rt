@@ -2,7 +2,7 @@
 
 ghost use Rattle.std.specs.Prelude.{◌≡◌, ◌+◌, ◌-◌, ◌^◌, ◌<◌, ◌≤◌, min, ℕ, [], List, false, length, All, IsTrue, IfOk, IfErr, OnOk, OnErr};
 ghost use Rattle.aria_host.specs.Folder.{page_count};
-ghost use Rattle.aria_log.specs.Log.{log_file};
+ghost use Rattle.aria_journal.specs.Log.{log_file};
 ghost use Rattle.aria_model.specs.World.{World};
 ghost use Rattle.aria_model.specs.Script.{lines_of};
 ghost use Rattle.aria_model.specs.Journal.{met_at};

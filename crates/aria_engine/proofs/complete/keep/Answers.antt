@@ -1,6 +1,6 @@
 use Rattle.std.proofs.Common.{[], ◌∷◌, ◌++◌, length}
-use Rattle.aria_log.proofs.Writing.{one_after}
-use Rattle.aria_log.specs.Runs.{HoldsFrom}
+use Rattle.aria_journal.proofs.Writing.{one_after}
+use Rattle.aria_journal.specs.Runs.{HoldsFrom}
 use Rattle.aria_engine.proofs.complete.keep.Goals as goal
 
 pub returns-in_err-append-clause-moments : goal.returns-in_err-append-clause-moments

@@ -2,13 +2,13 @@ use Rattle.std.proofs.Common.{◌≡◌, rules, List, ℕ, Result, Ok, Err, map,
 use Rattle.std.specs.Prelude.{IfOk}
 use Rattle.std.proofs.lemmas.Result.{IfErr-weaker}
 use Rattle.aria_host.specs.Folder.{Folder}
-use Rattle.aria_log.specs.declared.log.Log.{Log as LogValue}
-use Rattle.aria_log.specs.declared.opened.Opened.TheVariants.{Sound}
-use Rattle.aria_log.specs.Opened.{Finds}
-use Rattle.aria_log.specs.Log.{log_of, IsOpened}
+use Rattle.aria_journal.specs.declared.log.Log.{Log as LogValue}
+use Rattle.aria_journal.specs.declared.opened.Opened.TheVariants.{Sound}
+use Rattle.aria_journal.specs.Opened.{Finds}
+use Rattle.aria_journal.specs.Log.{log_of, IsOpened}
 use Rattle.aria_engine.specs.Opening.{Replays, Recovered}
 use Rattle.aria_engine.specs.Store.{tables_of}
-use Rattle.aria_log.specs.declared.opened.Frame.{Frame}
+use Rattle.aria_journal.specs.declared.opened.Frame.{Frame}
 use Rattle.aria_host.specs.declared.fault.Fault.{Fault}
 use Rattle.aria_engine.specs.declared.store.Store.{Store}
 use Rattle.aria_engine.proofs.Settling.{recovered_of, recovered_cause}

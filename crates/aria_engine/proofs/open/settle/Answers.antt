@@ -1,6 +1,6 @@
 use Rattle.std.proofs.Common.{ap, ◌∙◌}
 use Rattle.aria_host.specs.Folder.{Folder}
-use Rattle.aria_log.specs.Log.{log_file}
+use Rattle.aria_journal.specs.Log.{log_file}
 use Rattle.aria_engine.proofs.Settling.{not_found}
 use Rattle.aria_engine.proofs.Opening.{created_opens, synced_opens, looked_opens}
 use Rattle.aria_engine.proofs.open.settle.Goals as goal

@@ -1,5 +1,5 @@
 use Rattle.std.proofs.Common.{map, take}
-use Rattle.aria_log.specs.declared.opened.Frame.{Frame}
+use Rattle.aria_journal.specs.declared.opened.Frame.{Frame}
 use Rattle.aria_memory.specs.Worlds.{world_of}
 use Rattle.aria_engine.specs.Opening.{Replays}
 use Rattle.aria_engine.proofs.replay.replay.Given as goal

@@ -1,7 +1,7 @@
 use Rattle.std.proofs.Common.{ℕ, List, Bool, true, false, [], ◌∷◌, length, refl, sym, subst}
 use Rattle.aria_host.specs.State.{State}
-use Rattle.aria_log.specs.declared.log.Log.{Log as LogValue}
-use Rattle.aria_log.specs.Log.{IsLog}
+use Rattle.aria_journal.specs.declared.log.Log.{Log as LogValue}
+use Rattle.aria_journal.specs.Log.{IsLog}
 use Rattle.aria_engine.specs.declared.store.Store.{Store}
 use Rattle.aria_engine.specs.Done.{Does}
 use Rattle.aria_engine.specs.Store.{IsRunning}

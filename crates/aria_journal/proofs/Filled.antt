@@ -1,0 +1,39 @@
+-- The page that is filled, byte after byte, and the page that is written from it.
+use Rattle.std.proofs.Common.{◌≡◌, ℕ, ◌+◌, ◌-◌, ◌≤◌, Bool, Some, List, [], ◌++◌, length, take, drop, min, refl, ◌∙◌, ap, arith, length-append}
+use Rattle.std.proofs.lemmas.List.{length-take}
+use Rattle.aria_page.specs.Page.{Sums, with_bytes, with_sum, zero_page}
+use Rattle.aria_journal.specs.declared.log.Log.{Log as LogValue}
+use Rattle.aria_journal.specs.LogPage.{log_head, log_body, log_page, read_log_page}
+use Rattle.aria_journal.specs.Log.{Fills}
+use Rattle.aria_journal.proofs.LogPages.{valid_reads}
+use Rattle.aria_journal.proofs.Sealing.{filled_more, sealed_is_page}
+
+-- bytes from the front of a piece were put into the page
+pub fills_more : (old new : LogValue) (number : ℕ) (begins : Bool) (held piece part : List ℕ) (count : ℕ) → Fills old number begins held → length old.page ≡ 8192 → old.used ≤ 8176
+    → count ≡ min (8176 - old.used) (length piece) → part ≡ take count piece → new.page ≡ with_bytes (16 + old.used) part old.page → new.number ≡ old.number → new.begins ≡ old.begins → new.used ≡ old.used + count
+    → Fills new number begins (held ++ part)
+fills_more old new number begins held piece part count is long fits counts part_is page number_is begins_is used_is =
+    let len : length part ≡ count = ap length part_is ∙ length-take count piece ∙ omega arith in
+    record {
+      number_is = number_is ∙ is.number_is;
+      begins_is = begins_is ∙ is.begins_is;
+      used_is = used_is ∙ omega (arith, len, is.used_is, length-append held part);
+      body_is = filled_more old.page new.page held part old.used long is.body_is is.used_is (omega (arith, len)) page;
+    }
+
+-- the page that is written reads as what was filled in
+pub written_reads : (log : LogValue) (page : List ℕ) (number : ℕ) (begins : Bool) (held : List ℕ) → Fills log number begins held → log.used ≤ 8176 → 1 ≤ length held → Sums page
+    → page ≡ with_sum (log_head log.number log.begins log.used ++ drop 16 log.page) → read_log_page log.number page ≡ Some (begins, held)
+written_reads log page number begins held is fits some sums page_is =
+    let spelled : page ≡ log_page log.number log.begins held = sealed_is_page log.page page held log.number log.used log.begins is.body_is is.used_is page_is in
+    valid_reads log.number begins held page (record {
+      sums = sums;
+      spelled = spelled ∙ ap (λ (b : Bool). log_page log.number b held) is.begins_is;
+      used = some;
+      fits = omega (arith, is.used_is);
+    })
+
+-- the body of the page of zeros is that of a page that holds nothing
+pub zero_fills : drop 16 zero_page ≡ log_body []
+unfolding zero_page log_body
+zero_fills = refl

@@ -1,5 +1,0 @@
-use Rattle.std.proofs.Common.{refl}
-use Rattle.aria_log.proofs.tests.add.Goals as goal
-
-pub returns : goal.returns
-returns c = let (frames, forced, is) = c.requires in (_, forced, c.in_ok-append.ensures.appended refl frames forced is)

@@ -1,6 +1,0 @@
-use Rattle.aria_host.specs.MemHost.{mem_state}
-use Rattle.aria_log.specs.Log.{IsRunning}
-use Rattle.aria_log.proofs.tests.add_all.Given as goal
-
-abbrev pub invariant-loop-number : goal.invariant-loop-number
-invariant-loop-number l = IsRunning l.log (mem_state l.host)
