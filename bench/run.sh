@@ -1,9 +1,9 @@
 #!/usr/bin/env bash
-# Times of the built program: medians of five runs, which are interleaved, so that a busy moment falls on all of them.
-# First how the time grows with the rows, up to a table of a million, then the opening of a log of 100,000 lines that the
-# system still holds, and then durable inserts: each line is on the disk before its reply is told. Beside these stand a program that appends
-# 8192 bytes and syncs, as often, and sqlite3 where it is there. bench/run.sh [SECONDS]: about how long a run of
-# durable inserts takes, 10 where nothing is said. It needs 2 GB of the disk.
+# Times of the built program. Each is the median of five runs, which are interleaved, so that a busy moment falls on all
+# of them. It measures how the time grows with the rows, up to a table of a million; the opening of a journal of 100,000
+# lines, which the system still has in memory; and durable inserts, each on the disk before its reply is printed. Beside
+# these stand a program that appends 8192 bytes and syncs, as often, and sqlite3 if it is installed.
+# bench/run.sh [SECONDS]: about how long a run of durable inserts takes, 10 by default. It needs 2 GB of the disk.
 set -eu
 top=$(cd "$(dirname "${BASH_SOURCE[0]}")/.." && pwd)
 aria=$top/crates/aria/out/aria
@@ -59,7 +59,7 @@ for count in $many $most_rows; do
     cat "load.$count" picks > "picks.$count"
 done
 
-# A log of inserts of one row each, made where a sync costs nothing. The shorter ones are its front.
+# A journal of inserts of one row each, made where a sync costs nothing. The shorter ones are its first pages.
 { echo "$create"; rows "$lines" | sed 's/^/insert t /'; } > singles
 (cd "$quick" && "$aria" run < "$room/singles" > "$room/told")
 for count in $small $large $lines; do
