@@ -434,7 +434,7 @@ damaged_line 'a line that begins with the last byte of a page' 0 "$(printf '%-81
 fresh
 goes_on 'before other files' 0 '' three.aria run
 cp -r folder sound
-for file in aria_log_control aria_log.00000000 aria_log.00000002 aria_journal.16777215 x.MAI x.MAD x.TMI _1.TMD; do
+for file in aria_log_control aria_log.00000000 aria_log.00000002 aria_log.16777215 x.MAI x.MAD x.TMI _1.TMD; do
     for base in nothing sound; do
         fresh
         [[ $base = nothing ]] || cp sound/* folder
@@ -454,7 +454,7 @@ rmdir folder/a.TMD
 stays 'a link as another file' 5 $'aria: not ours aria_log_control\n'
 rm -rf folder
 cp -r sound folder
-for file in aria_journal aria_journal.1 aria_journal.16777216 aria_log.000000001 x.mai .MAI 1.MAI x.MYD x.MAI.old $'\xff.MAI' \
+for file in aria_log aria_log.1 aria_log.16777216 aria_log.000000001 x.mai .MAI 1.MAI x.MYD x.MAI.old $'\xff.MAI' \
     "$(printf '%065d' 0 | tr 0 x).MAI"; do
     echo other > "folder/$file"
 done

@@ -4,7 +4,7 @@ ghost use Rattle.aria_journal.specs.Frames.{IsFrame};
 /// The most bytes of a frame.
 pub const MAX_FRAME_BYTES: usize = 1_048_576;
 
-/// Whether a frame may hold these bytes: they are from 1 to `MAX_FRAME_BYTES` (docs/FORMATS.md, "The log's runs of frames").
+/// Whether a frame may hold these bytes: they are from 1 to `MAX_FRAME_BYTES` (docs/FORMATS.md, "The journal's runs of frames").
 pub fn is_frame(bytes: &[u8]) -> bool
     ensures { IsTrue result ↔ IsFrame bytes.now }
 {

@@ -21,7 +21,7 @@
 //!
 //! `start` asks that each crash now leaves the log's file as it reads, as it is when a run begins; `append` and `force`
 //! ask for a log that was started, which `start`, `append` and `force` answer. After a call has answered a fault the log
-//! isn't used again: it is opened anew. docs/FORMATS.md has the pages and, in "The log's runs of frames", the frames.
+//! isn't used again: it is opened anew. docs/FORMATS.md has the pages and, in "The journal's runs of frames", the frames.
 #![tactic(auto)]
 
 mod calls;
