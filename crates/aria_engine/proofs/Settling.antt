@@ -6,7 +6,7 @@ use Rattle.std.proofs.lemmas.Bool.{eqb-true}
 use Rattle.std.proofs.lemmas.Bool.Decides.{nat_tests}
 use Rattle.std.specs.Prelude.{slice_get}
 use Rattle.aria_host.specs.declared.fault.Fault.{Fault}
-use Rattle.aria_host.specs.declared.fault.Fault.TheVariants.{Memory, Disk, Tell, Input, NotOurs, LogDamaged}
+use Rattle.aria_host.specs.declared.fault.Fault.TheVariants.{Memory, Disk, Tell, Input, NotOurs, LogDamaged, LogSpent, ControlDamaged, PageDamaged, FileMissing, TooManyTables}
 use Rattle.aria_host.specs.Count.{Rose}
 use Rattle.aria_journal.specs.Places.{frame_pages_of}
 use Rattle.aria_host.specs.declared.host.Extent.{Extent}
@@ -226,6 +226,11 @@ recovered_cause tells (LogDamaged file page) old new lines pages found is = λ t
       same,
     )
 recovered_cause tells (NotOurs file) old new lines pages found is = absurd is
+recovered_cause tells (LogSpent file) old new lines pages found is = absurd is
+recovered_cause tells ControlDamaged old new lines pages found is = absurd is
+recovered_cause tells (PageDamaged file page) old new lines pages found is = absurd is
+recovered_cause tells (FileMissing file) old new lines pages found is = absurd is
+recovered_cause tells TooManyTables old new lines pages found is = absurd is
 
 -- the cause of a fault after the log's file was settled
 pub settled_cause : (tells : Bool) (fault : Fault) (old mid new : State) → mid.disk_faults ≡ old.disk_faults → (IsTrue tells → SameLog old.folder mid.folder) → (IsTrue tells → new.folder ≡ mid.folder)
@@ -237,3 +242,8 @@ settled_cause tells Input old mid new calm same still is = is
 settled_cause tells (LogDamaged file page) old mid new calm same still is = λ told.
     let was = settled_damage old.folder mid.folder page (same told) (is told).1 in ((is told).0, was.0, (is told).2 ∙ was.1)
 settled_cause tells (NotOurs file) old mid new calm same still is = is
+settled_cause tells (LogSpent file) old mid new calm same still is = is
+settled_cause tells ControlDamaged old mid new calm same still is = is
+settled_cause tells (PageDamaged file page) old mid new calm same still is = is
+settled_cause tells (FileMissing file) old mid new calm same still is = is
+settled_cause tells TooManyTables old mid new calm same still is = is

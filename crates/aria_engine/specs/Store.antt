@@ -1,7 +1,7 @@
 -- A store between its statements.
 use Rattle.std.specs.Prelude.{◌≡◌, ◌⊎◌, ℕ, ◌+◌, ◌≤◌, [], ◌==◌, if◌then◌else◌, IsTrue, Bool, Option, None, List, length}
 use Rattle.aria_host.specs.declared.fault.Fault.{Fault}
-use Rattle.aria_host.specs.declared.fault.Fault.TheVariants.{Memory, Disk, Tell, Input, NotOurs, LogDamaged}
+use Rattle.aria_host.specs.declared.fault.Fault.TheVariants.{Memory, Disk, Tell, NotOurs, LogDamaged}
 use Rattle.aria_host.specs.Count.{Rose}
 use Rattle.aria_host.specs.State.{Folder, State}
 use Rattle.aria_journal.specs.Log.{IsLog}
@@ -62,10 +62,9 @@ pub record IsSilent (old new : State) : Type 0 where
 abbrev pub HasOpenCause : Bool → Fault → State → State → Type 0
 HasOpenCause tells (Memory error) old new = Unit {0}
 HasOpenCause tells Disk old new = Rose old.disk_faults new.disk_faults
-HasOpenCause tells Tell old new = ⊥
-HasOpenCause tells Input old new = ⊥
 HasOpenCause tells (LogDamaged file page) old new = IsTrue tells → IsDamage (LogDamaged file page) old.folder × (new.folder ≡ old.folder)
 HasOpenCause tells (NotOurs file) old new = IsTrue tells → IsDamage (NotOurs file) old.folder × (new.folder ≡ old.folder)
+HasOpenCause tells _ old new = ⊥
 
 -- a crash leaves these tables, with nothing more told
 abbrev pub StillHolds : World → List ℕ → Folder → List ℕ → Type 0
@@ -80,6 +79,4 @@ abbrev pub HasCause : Fault → State → State → Type 0
 HasCause (Memory error) old new = Unit {0}
 HasCause Disk old new = Rose old.disk_faults new.disk_faults
 HasCause Tell old new = Rose old.tell_faults new.tell_faults
-HasCause Input old new = ⊥
-HasCause (LogDamaged file page) old new = ⊥
-HasCause (NotOurs file) old new = ⊥
+HasCause _ old new = ⊥

@@ -15,8 +15,8 @@ use Rattle.aria_engine.specs.Store.{SameFaults, OpensAs, HasOpenCause}
 use Rattle.aria_engine.specs.Done.{Leaves}
 use Rattle.aria_engine.proofs.Leaving.{leaves_none}
 use Rattle.aria_tools.specs.declared.stop.Stop.{Stop}
-use Rattle.aria_tools.specs.declared.stop.Stop.TheVariants.{Memory, Disk, LogDamaged, NotOurs, Input, Tell, TooLong}
-use Rattle.aria_tools.specs.Stops.{damage_of, stop_of}
+use Rattle.aria_tools.specs.declared.stop.Stop.TheVariants.{Memory, Disk, LogDamaged, NotOurs, Input, Tell, TooLong, LogSpent, ControlDamaged, PageDamaged, FileMissing, TooManyTables}
+use Rattle.aria_tools.specs.Stops.{named_fault, status_of, stop_of}
 use Rattle.aria_tools.specs.Endings.{Supply, StopsBy, Ends, AnswersAll, AnswersBy, AnswersEnded, AnswersFull, Answered, WasSound, Runs, RunsWhole, Began, Prefix, BeganOrPrefix, IsEnd, IsEndText, IsStatusText, TellsText, TellsErr, status_of_run}
 use Rattle.aria_tools.proofs.Pieces.{rose_since, same_faults_more}
 
@@ -29,7 +29,7 @@ leaves_prefix w lines xs out c told_by leaves = record {
 }
 
 -- a run's end, also since its store was opened, which counted no fault
-pub ends_after : (ti to : Bool) (s0 s1 : Supply) (r : Result Bool Stop) (h h0 h1 : State) → SameFaults h h0 → IfErr r (λ stop. damage_of stop ≡ None) → Ends ti to s0 s1 r h0 h1 → Ends ti to s0 s1 r h h1
+pub ends_after : (ti to : Bool) (s0 s1 : Supply) (r : Result Bool Stop) (h h0 h1 : State) → SameFaults h h0 → IfErr r (λ stop. named_fault stop ≡ None) → Ends ti to s0 s1 r h0 h1 → Ends ti to s0 s1 r h h1
 ends_after ti to s0 s1 (Ok refused) h h0 h1 same sound ends = record { few = ends.few; ended = ends.ended; calm = ends.calm; same = same_faults_more h h0 h1 same ends.same }
 ends_after ti to s0 s1 (Err Memory) h h0 h1 same sound ends = ends
 ends_after ti to s0 s1 (Err Disk) h h0 h1 same sound ends = (ends.0, rose_since h.disk_faults h0.disk_faults h1.disk_faults (2 ^ 64 - 1) same.disk ends.1)
@@ -38,6 +38,11 @@ ends_after ti to s0 s1 (Err (NotOurs file)) h h0 h1 same sound ends = absurd (cc
 ends_after ti to s0 s1 (Err Input) h h0 h1 same sound ends = ends
 ends_after ti to s0 s1 (Err Tell) h h0 h1 same sound ends = (ends.0, rose_since h.tell_faults h0.tell_faults h1.tell_faults (2 ^ 64 - 1) same.tell ends.1)
 ends_after ti to s0 s1 (Err TooLong) h h0 h1 same sound ends = ends
+ends_after ti to s0 s1 (Err (LogSpent file)) h h0 h1 same sound ends = absurd ends
+ends_after ti to s0 s1 (Err ControlDamaged) h h0 h1 same sound ends = absurd ends
+ends_after ti to s0 s1 (Err (PageDamaged file page)) h h0 h1 same sound ends = absurd ends
+ends_after ti to s0 s1 (Err (FileMissing file)) h h0 h1 same sound ends = absurd ends
+ends_after ti to s0 s1 (Err TooManyTables) h h0 h1 same sound ends = absurd ends
 
 by_after : (stop : Stop) (s0 s1 : Supply) (w : World) (xs : Exceptions) (h h0 h1 : State) → h0.out ≡ h.out → AnswersBy stop s0 s1 w xs h0 h1 → AnswersBy stop s0 s1 w xs h h1
 by_after Memory s0 s1 w xs h h0 h1 same by = tt
@@ -47,6 +52,11 @@ by_after (NotOurs file) s0 s1 w xs h h0 h1 same by = tt
 by_after Input s0 s1 w xs h h0 h1 same (taken, is, out) = (taken, is, out ∙ ap (λ (o : List ℕ). o ++ told w (ended_lines taken) xs) same)
 by_after Tell s0 s1 w xs h h0 h1 same by = tt
 by_after TooLong s0 s1 w xs h h0 h1 same (taken, further, is, long, out) = (taken, further, is, long, out ∙ ap (λ (o : List ℕ). o ++ told w (ended_lines taken) xs) same)
+by_after (LogSpent file) s0 s1 w xs h h0 h1 same by = tt
+by_after ControlDamaged s0 s1 w xs h h0 h1 same by = tt
+by_after (PageDamaged file page) s0 s1 w xs h h0 h1 same by = tt
+by_after (FileMissing file) s0 s1 w xs h h0 h1 same by = tt
+by_after TooManyTables s0 s1 w xs h h0 h1 same by = tt
 
 answered_after : (s0 s1 : Supply) (w : World) (xs : Exceptions) (r : Result Bool Stop) (h h0 h1 : State) → h0.out ≡ h.out → Answered s0 s1 w xs r h0 h1 → Answered s0 s1 w xs r h h1
 answered_after s0 s1 w xs (Ok refused) h h0 h1 same all = record {
@@ -92,6 +102,11 @@ opening_answers to faults.Tell s0 s1 w xs h h0 cause = absurd cause
 opening_answers to faults.Input s0 s1 w xs h h0 cause = absurd cause
 opening_answers to (faults.LogDamaged file page) s0 s1 w xs h h0 cause = tt
 opening_answers to (faults.NotOurs file) s0 s1 w xs h h0 cause = tt
+opening_answers to (faults.LogSpent file) s0 s1 w xs h h0 cause = tt
+opening_answers to faults.ControlDamaged s0 s1 w xs h h0 cause = tt
+opening_answers to (faults.PageDamaged file page) s0 s1 w xs h h0 cause = tt
+opening_answers to (faults.FileMissing file) s0 s1 w xs h h0 cause = tt
+opening_answers to faults.TooManyTables s0 s1 w xs h h0 cause = tt
 
 -- what a crash leaves of a run, in the words of the whole command
 pub began_or_prefix : (h : State) (w : World) (lines : List (List ℕ)) (xs : Exceptions) (c : Folder) (t : List ℕ) → Began h c t ⊎ Leaves w lines xs h.out c t → BeganOrPrefix h w lines xs c t
@@ -128,6 +143,11 @@ ok_of (Err (NotOurs file)) low = absurd (omega (arith, low))
 ok_of (Err Input) low = absurd (omega (arith, low))
 ok_of (Err Tell) low = absurd (omega (arith, low))
 ok_of (Err TooLong) low = absurd (omega (arith, low))
+ok_of (Err (LogSpent file)) low = absurd (omega (arith, low))
+ok_of (Err ControlDamaged) low = absurd (omega (arith, low))
+ok_of (Err (PageDamaged file page)) low = absurd (omega (arith, low))
+ok_of (Err (FileMissing file)) low = absurd (omega (arith, low))
+ok_of (Err TooManyTables) low = absurd (omega (arith, low))
 
 -- the status of a run that has read all
 pub ended_ok : (r : Result Bool Stop) (status : ℕ) → IsEnd r status → status ≤ 1 → (refused : Bool) × (r ≡ Ok refused) × (status ≡ status_of_run r)
@@ -151,6 +171,26 @@ refused_is s0 s1 w xs r status h h0 end low runs =
     let all = all_answered s0 s1 w xs r ok.0 h h0 ok.1 runs in
     one_where ok.0 (any_refused w (lines_of s0.left) xs) status (ok.2 ∙ ap status_of_run ok.1) all.is_refused
 
+-- the statuses of an ended run
+pub run_statuses : (ti to : Bool) (s0 s1 : Supply) (r : Result Bool Stop) (status : ℕ) (h h0 : State) → Ends ti to s0 s1 r h h0 → IsEnd r status → status ≤ 8
+run_statuses ti to s0 s1 r status h h0 ends end = ⊎_elim (λ (is : status ≡ status_of_run r). omega (arith, is, most r ends)) (λ both. omega (arith, both.0)) end
+  where
+    most : (o : Result Bool Stop) → Ends ti to s0 s1 o h h0 → status_of_run o ≤ 8
+    most (Ok true) all = omega arith
+    most (Ok false) all = omega arith
+    most (Err Memory) stops = omega arith
+    most (Err Disk) stops = omega arith
+    most (Err (LogDamaged file page)) stops = omega arith
+    most (Err (NotOurs file)) stops = omega arith
+    most (Err Input) stops = omega arith
+    most (Err Tell) stops = omega arith
+    most (Err TooLong) stops = omega arith
+    most (Err (LogSpent file)) stops = absurd stops
+    most (Err ControlDamaged) stops = absurd stops
+    most (Err (PageDamaged file page)) stops = absurd stops
+    most (Err (FileMissing file)) stops = absurd stops
+    most (Err TooManyTables) stops = absurd stops
+
 stop_six : (r : Result Bool Stop) → status_of_run r ≡ 6 → r ≡ Err Input
 stop_six (Ok true) is = absurd (omega (arith, is))
 stop_six (Ok false) is = absurd (omega (arith, is))
@@ -161,6 +201,11 @@ stop_six (Err (NotOurs file)) is = absurd (omega (arith, is))
 stop_six (Err Input) is = refl
 stop_six (Err Tell) is = absurd (omega (arith, is))
 stop_six (Err TooLong) is = absurd (omega (arith, is))
+stop_six (Err (LogSpent file)) is = absurd (omega (arith, is))
+stop_six (Err ControlDamaged) is = absurd (omega (arith, is))
+stop_six (Err (PageDamaged file page)) is = absurd (omega (arith, is))
+stop_six (Err (FileMissing file)) is = absurd (omega (arith, is))
+stop_six (Err TooManyTables) is = absurd (omega (arith, is))
 
 stop_eight : (r : Result Bool Stop) → status_of_run r ≡ 8 → r ≡ Err TooLong
 stop_eight (Ok true) is = absurd (omega (arith, is))
@@ -172,6 +217,11 @@ stop_eight (Err (NotOurs file)) is = absurd (omega (arith, is))
 stop_eight (Err Input) is = absurd (omega (arith, is))
 stop_eight (Err Tell) is = absurd (omega (arith, is))
 stop_eight (Err TooLong) is = refl
+stop_eight (Err (LogSpent file)) is = absurd (omega (arith, is))
+stop_eight (Err ControlDamaged) is = absurd (omega (arith, is))
+stop_eight (Err (PageDamaged file page)) is = absurd (omega (arith, is))
+stop_eight (Err (FileMissing file)) is = absurd (omega (arith, is))
+stop_eight (Err TooManyTables) is = absurd (omega (arith, is))
 
 -- what a run has answered at a fault of the input
 pub ended_answered : (s0 s1 : Supply) (w : World) (xs : Exceptions) (r : Result Bool Stop) (status : ℕ) (h h0 h1 : State) → IsEnd r status → status ≡ 6 → RunsWhole s0 s1 w xs r h h0 → h1.out ≡ h0.out → AnswersEnded s0 s1 w xs h h1
@@ -194,20 +244,27 @@ front_told s0 s1 w xs r h h0 runs = front r runs.answered
     front (Ok refused) all = let text = told w (lines_of s0.left) xs in (length text, all.out ∙ ap (λ (t : List ℕ). h.out ++ t) (sym (take-length text)))
     front (Err stop) part = part.out
 
-damage_found : (ti to : Bool) (s0 s1 : Supply) (stop : Stop) (fault : Fault) (h h0 : State) → damage_of stop ≡ Some fault → StopsBy to stop s0 s1 h h0 → IsTrue to → IsDamage fault h.folder
+-- where a run stops at a fault that its line names, the folder is damaged
+damage_found : (ti to : Bool) (s0 s1 : Supply) (stop : Stop) (fault : Fault) (h h0 : State) → named_fault stop ≡ Some fault → StopsBy to stop s0 s1 h h0 → IsTrue to → (status_of stop ≡ 5) × IsDamage fault h.folder
 damage_found ti to s0 s1 Memory fault h h0 is stops told = absurd (cc)
 damage_found ti to s0 s1 Disk fault h h0 is stops told = absurd (cc)
-damage_found ti to s0 s1 (LogDamaged file page) fault h h0 is stops told = let same : faults.LogDamaged file page ≡ fault = cc in subst (λ (f : Fault). IsDamage f h.folder) same (stops.1 told).0
-damage_found ti to s0 s1 (NotOurs file) fault h h0 is stops told = let same : faults.NotOurs file ≡ fault = cc in subst (λ (f : Fault). IsDamage f h.folder) same (stops.1 told).0
+damage_found ti to s0 s1 (LogDamaged file page) fault h h0 is stops told = let same : faults.LogDamaged file page ≡ fault = cc in (refl, subst (λ (f : Fault). IsDamage f h.folder) same (stops.1 told).0)
+damage_found ti to s0 s1 (NotOurs file) fault h h0 is stops told = let same : faults.NotOurs file ≡ fault = cc in (refl, subst (λ (f : Fault). IsDamage f h.folder) same (stops.1 told).0)
 damage_found ti to s0 s1 Input fault h h0 is stops told = absurd (cc)
 damage_found ti to s0 s1 Tell fault h h0 is stops told = absurd (cc)
 damage_found ti to s0 s1 TooLong fault h h0 is stops told = absurd (cc)
+damage_found ti to s0 s1 (LogSpent file) fault h h0 is stops told = absurd stops
+damage_found ti to s0 s1 ControlDamaged fault h h0 is stops told = absurd stops
+damage_found ti to s0 s1 (PageDamaged file page) fault h h0 is stops told = absurd stops
+damage_found ti to s0 s1 (FileMissing file) fault h h0 is stops told = absurd stops
+damage_found ti to s0 s1 TooManyTables fault h h0 is stops told = absurd stops
 
 -- the text of a run's end is that of its status
 pub text_is : (ti to : Bool) (s0 s1 : Supply) (r : Result Bool Stop) (status : ℕ) (text : List ℕ) (h h0 : State) → Ends ti to s0 s1 r h h0 → IsTrue to → IsEndText r status text → IsStatusText status h.folder text
-text_is ti to s0 s1 r status text h h0 ends told (inl plain) = inl plain
-text_is ti to s0 s1 r status text h h0 ends told (inr (stop, fault, r_is, damage, five, is)) =
-    inr (five, fault, damage_found ti to s0 s1 stop fault h h0 damage (subst (λ (o : Result Bool Stop). Ends ti to s0 s1 o h h0) r_is ends) told, is)
+text_is ti to s0 s1 r status text h h0 ends told (inl plain) = inl (λ five. plain.0 (inl five), plain.1)
+text_is ti to s0 s1 r status text h h0 ends told (inr (stop, fault, r_is, named, is_status, is)) =
+    let found = damage_found ti to s0 s1 stop fault h h0 named (subst (λ (o : Result Bool Stop). Ends ti to s0 s1 o h h0) r_is ends) told in
+    inr (is_status ∙ found.0, fault, found.1, is)
 
 -- what is told on standard error at the end, as told since the beginning
 pub text_after : (text : List ℕ) (h h0 h1 : State) → h0.err ≡ h.err → h.tell_faults ≤ h0.tell_faults → TellsText text h0 h1 → TellsText text h h1
@@ -230,6 +287,11 @@ no_damage (faults.Memory error) folder w damage holds = absurd damage
 no_damage faults.Disk folder w damage holds = absurd damage
 no_damage faults.Tell folder w damage holds = absurd damage
 no_damage faults.Input folder w damage holds = absurd damage
+no_damage (faults.LogSpent file) folder w damage holds = absurd damage
+no_damage faults.ControlDamaged folder w damage holds = absurd damage
+no_damage (faults.PageDamaged file page) folder w damage holds = absurd damage
+no_damage (faults.FileMissing file) folder w damage holds = absurd damage
+no_damage faults.TooManyTables folder w damage holds = absurd damage
 
 -- no fault is counted, so none is answered
 pub completes : (to : Bool) (ti : Bool) (s0 s1 : Supply) (w : World) (xs : Exceptions) (r : Result Bool Stop) (status : ℕ) (h h0 h1 : State) → IsTrue to → Holds h.folder w
@@ -255,6 +317,11 @@ completes to ti s0 s1 w xs r status h h0 h1 told holds ends runs end short disk 
         let by = answered.by in
         let long : length s0.left ≡ length by.0 + length (by.1 ∷ s1.left) = ap length by.2 ∙ length-append by.0 (by.1 ∷ s1.left) in
         absurd (omega (arith, long, by.3, short))
+    of (Err (LogSpent file)) stops answered = absurd stops
+    of (Err ControlDamaged) stops answered = absurd stops
+    of (Err (PageDamaged file page)) stops answered = absurd stops
+    of (Err (FileMissing file)) stops answered = absurd stops
+    of (Err TooManyTables) stops answered = absurd stops
 
 -- a store is opened of a folder that holds tables
 pub was_sound : (r : Result Bool Stop) (folder : Folder) (w : World) → Holds folder w → WasSound r folder
@@ -266,6 +333,11 @@ was_sound (Err (NotOurs file)) folder w holds = tt
 was_sound (Err Input) folder w holds = (w, holds)
 was_sound (Err Tell) folder w holds = (w, holds)
 was_sound (Err TooLong) folder w holds = (w, holds)
+was_sound (Err (LogSpent file)) folder w holds = (w, holds)
+was_sound (Err ControlDamaged) folder w holds = (w, holds)
+was_sound (Err (PageDamaged file page)) folder w holds = (w, holds)
+was_sound (Err (FileMissing file)) folder w holds = (w, holds)
+was_sound (Err TooManyTables) folder w holds = (w, holds)
 
 -- with these statuses it was
 pub sound_where : (r : Result Bool Stop) (folder : Folder) (status : ℕ) → WasSound r folder → IsEnd r status → (status ≤ 1) ⊎ (6 ≤ status) → (world : World) × Holds folder world
@@ -282,3 +354,8 @@ sound_where r folder status sound end which =
     of (Err Input) held some = held
     of (Err Tell) held some = held
     of (Err TooLong) held some = held
+    of (Err (LogSpent file)) held some = held
+    of (Err ControlDamaged) held some = absurd (⊎_elim (λ low. omega (arith, low)) (λ high. omega (arith, high)) some)
+    of (Err (PageDamaged file page)) held some = absurd (⊎_elim (λ low. omega (arith, low)) (λ high. omega (arith, high)) some)
+    of (Err (FileMissing file)) held some = absurd (⊎_elim (λ low. omega (arith, low)) (λ high. omega (arith, high)) some)
+    of (Err TooManyTables) held some = held

@@ -5,7 +5,7 @@ use Rattle.aria_host.specs.State.{State}
 use Rattle.aria_model.specs.Script.{lines_of, ended_lines}
 use Rattle.aria_model.proofs.Lines.{ended_lines-front}
 use Rattle.aria_tools.specs.declared.stop.Stop.{Stop}
-use Rattle.aria_tools.specs.declared.stop.Stop.TheVariants.{Memory, Disk, LogDamaged, NotOurs, Input, Tell, TooLong}
+use Rattle.aria_tools.specs.declared.stop.Stop.TheVariants.{Memory, Disk, LogDamaged, NotOurs, Input, Tell, TooLong, LogSpent, ControlDamaged, PageDamaged, FileMissing, TooManyTables}
 use Rattle.aria_tools.specs.Held.{Splits}
 use Rattle.aria_engine.specs.declared.store.Store.{Store}
 use Rattle.aria_engine.specs.Store.{SameFaults, NoFewerFaults}
@@ -93,6 +93,11 @@ no_piece_stops ti to Disk taken read rest st0 st1 r0 r1 h0 h1 s0 s1 s2 reached n
 no_piece_stops ti to (LogDamaged file page) taken read rest st0 st1 r0 r1 h0 h1 s0 s1 s2 reached none = absurd none
 no_piece_stops ti to (NotOurs file) taken read rest st0 st1 r0 r1 h0 h1 s0 s1 s2 reached none = absurd none
 no_piece_stops ti to Tell taken read rest st0 st1 r0 r1 h0 h1 s0 s1 s2 reached none = absurd none
+no_piece_stops ti to (LogSpent file) taken read rest st0 st1 r0 r1 h0 h1 s0 s1 s2 reached none = absurd none
+no_piece_stops ti to ControlDamaged taken read rest st0 st1 r0 r1 h0 h1 s0 s1 s2 reached none = absurd none
+no_piece_stops ti to (PageDamaged file page) taken read rest st0 st1 r0 r1 h0 h1 s0 s1 s2 reached none = absurd none
+no_piece_stops ti to (FileMissing file) taken read rest st0 st1 r0 r1 h0 h1 s0 s1 s2 reached none = absurd none
+no_piece_stops ti to TooManyTables taken read rest st0 st1 r0 r1 h0 h1 s0 s1 s2 reached none = absurd none
 no_piece_stops ti to Input taken read rest st0 st1 r0 r1 h0 h1 s0 s1 s2 reached none = record {
   cause = (
     subst (λ (n : ℕ). n ≤ s0.taken + 2 ^ 40) (sym none.2) (took_few ti to taken read rest st0 st1 r0 r1 h0 h1 s0 s1 reached),
@@ -119,6 +124,11 @@ line_stops ti to (NotOurs file) s0 s1 st0 st2 h0 h1 h2 few same is = absurd is
 line_stops ti to Input s0 s1 st0 st2 h0 h1 h2 few same is = absurd is
 line_stops ti to Tell s0 s1 st0 st2 h0 h1 h2 few same is = record { cause = (few, rose_since h0.tell_faults h1.tell_faults h2.tell_faults (2 ^ 64 - 1) same.tell is); sound = refl; by = λ h told xs met. tt }
 line_stops ti to TooLong s0 s1 st0 st2 h0 h1 h2 few same is = absurd is
+line_stops ti to (LogSpent file) s0 s1 st0 st2 h0 h1 h2 few same is = absurd is
+line_stops ti to ControlDamaged s0 s1 st0 st2 h0 h1 h2 few same is = absurd is
+line_stops ti to (PageDamaged file page) s0 s1 st0 st2 h0 h1 h2 few same is = absurd is
+line_stops ti to (FileMissing file) s0 s1 st0 st2 h0 h1 h2 few same is = absurd is
+line_stops ti to TooManyTables s0 s1 st0 st2 h0 h1 h2 few same is = absurd is
 
 -- no fault was counted in one run and then another
 pub same_faults_more : (a b c : State) → SameFaults a b → SameFaults b c → SameFaults a c

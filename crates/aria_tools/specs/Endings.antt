@@ -12,7 +12,7 @@ use Rattle.aria_engine.specs.Store.{SameFaults}
 use Rattle.aria_engine.specs.Done.{Leaves}
 use Rattle.aria_tools.specs.declared.stop.Stop.{Stop}
 use Rattle.aria_tools.specs.declared.stop.Stop.TheVariants.{Memory, Disk, LogDamaged, NotOurs, Input, Tell, TooLong}
-use Rattle.aria_tools.specs.Stops.{status_of, damage_text, damage_of}
+use Rattle.aria_tools.specs.Stops.{status_of, fault_text, named_fault, NamesFault}
 
 -- a source as contracts see it: the bytes that are left, how many were taken, and how often it failed
 pub record Supply : Type 0 where
@@ -49,6 +49,7 @@ StopsBy told (NotOurs file) supply supply_now before now = (supply_now ≡ suppl
 StopsBy told Input supply supply_now before now = TookFew supply supply_now × Rose supply.faults supply_now.faults
 StopsBy told Tell supply supply_now before now = TookFew supply supply_now × Rose before.tell_faults now.tell_faults
 StopsBy told TooLong supply supply_now before now = Counts supply.taken (2 ^ 40 + 1) supply_now.taken
+StopsBy told _ supply supply_now before now = ⊥
 
 -- The whole input was read, and no fault was counted.
 pub record ReadsAll (tells : Bool) (supply supply_now : Supply) (before now : State) : Type 0 where
@@ -69,9 +70,7 @@ WasSound (Err Memory) folder = Unit {0}
 WasSound (Err Disk) folder = Unit {0}
 WasSound (Err (LogDamaged file page)) folder = Unit {0}
 WasSound (Err (NotOurs file)) folder = Unit {0}
-WasSound (Err Input) folder = (world : World) × Holds folder world
-WasSound (Err Tell) folder = (world : World) × Holds folder world
-WasSound (Err TooLong) folder = (world : World) × Holds folder world
+WasSound (Err _) folder = (world : World) × Holds folder world
 
 -- The lines that LF ends in the bytes that were taken are answered.
 abbrev pub AnswersEnded : Supply → Supply → World → Exceptions → State → State → Type 0
@@ -144,19 +143,20 @@ status_of_run (Err stop) = status_of stop
 abbrev pub IsStatus : ℕ → Type 0
 IsStatus status = status ≤ 8
 
--- the line on standard error for a status, but for 5
+-- the line on standard error for a status, but for those that name a fault
 abbrev pub status_text : ℕ → List ℕ
 status_text status =
     if status == 2 then codes "aria: bad words\n" else
     if status == 3 then codes "aria: want of memory\n" else
     if status == 4 then codes "aria: disk fault\n" else
     if status == 6 then codes "aria: input fault\n" else
-    if status == 8 then codes "aria: input too long\n" else []
+    if status == 8 then codes "aria: input too long\n" else
+    if status == 10 then codes "aria: too many tables\n" else []
 
 -- the line on standard error for a status; at 5 it names the damage of the folder
 abbrev pub IsStatusText : ℕ → Folder → List ℕ → Type 0
 IsStatusText status folder text =
-    ((status ≢ 5) × (text ≡ status_text status)) ⊎ ((status ≡ 5) × (fault : Fault) × IsDamage fault folder × (text ≡ damage_text fault))
+    ((status ≢ 5) × (text ≡ status_text status)) ⊎ ((status ≡ 5) × (fault : Fault) × IsDamage fault folder × (text ≡ fault_text fault))
 
 -- A text was told on standard error, or a front of it where telling failed.
 abbrev pub TellsText : List ℕ → State → State → Type 0
@@ -175,11 +175,11 @@ pub record TellsErr (before now : State) : Type 0 where
   pub later : before.moment ≤ now.moment
   pub moments : (t : ℕ) (c : Folder) (b : List ℕ) → t ≤ before.moment → now.since t c b → before.since t c b ⊎ (before.may_leave c × (b ≡ before.out))
 
--- the status of an ended run; without memory for the line that names a damage it is that of want of memory
+-- the status of an ended run; without memory for the line that names a fault it is that of want of memory
 abbrev pub IsEnd : Result Bool Stop → ℕ → Type 0
-IsEnd result status = (status ≡ status_of_run result) ⊎ ((status ≡ 3) × (status_of_run result ≡ 5))
+IsEnd result status = (status ≡ status_of_run result) ⊎ ((status ≡ 3) × NamesFault (status_of_run result))
 
 -- the line on standard error of an ended run
 abbrev pub IsEndText : Result Bool Stop → ℕ → List ℕ → Type 0
 IsEndText result status text =
-    ((status ≢ 5) × (text ≡ status_text status)) ⊎ ((stop : Stop) × (fault : Fault) × (result ≡ Err stop) × (damage_of stop ≡ Some fault) × (status ≡ 5) × (text ≡ damage_text fault))
+    ((¬ NamesFault status) × (text ≡ status_text status)) ⊎ ((stop : Stop) × (fault : Fault) × (result ≡ Err stop) × (named_fault stop ≡ Some fault) × (status ≡ status_of stop) × (text ≡ fault_text fault))

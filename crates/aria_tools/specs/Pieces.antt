@@ -2,7 +2,7 @@
 use Rattle.std.specs.Prelude.{◌≡◌, ◌↔◌, ℕ, ◌+◌, ◌^◌, ◌≤◌, Bool, IsTrue, None, List, [], ◌∷◌, ◌++◌, take, length}
 use Rattle.aria_host.specs.Count.{Rose}
 use Rattle.aria_tools.specs.declared.stop.Stop.{Stop}
-use Rattle.aria_tools.specs.declared.stop.Stop.TheVariants.{Memory, Disk, LogDamaged, NotOurs, Input, Tell, TooLong}
+use Rattle.aria_tools.specs.declared.stop.Stop.TheVariants.{Input, TooLong}
 use Rattle.aria_host.specs.State.{State}
 use Rattle.aria_model.specs.Script.{ended_lines}
 use Rattle.aria_tools.specs.Held.{Splits}
@@ -30,14 +30,10 @@ pub record TakesPiece (tells : Bool) (n taken : ℕ) (piece : List ℕ) (before 
 
 -- The input failed and nothing was taken, or a byte came behind so many as an input may have.
 abbrev pub NoPiece : Bool → Stop → ℕ → Supply → Supply → Type 0
-NoPiece tells Memory taken before now = ⊥
-NoPiece tells Disk taken before now = ⊥
-NoPiece tells (LogDamaged file page) taken before now = ⊥
-NoPiece tells (NotOurs file) taken before now = ⊥
-NoPiece tells Tell taken before now = ⊥
 NoPiece tells Input taken before now = Rose before.faults now.faults × (now.left ≡ before.left) × (now.taken ≡ before.taken)
 NoPiece tells TooLong taken before now = (taken ≡ 2 ^ 40) × Counts before.taken 1 now.taken
     × (IsTrue tells → (further : ℕ) × (before.left ≡ further ∷ now.left))
+NoPiece tells _ taken before now = ⊥
 
 -- The lines that end in the rest and the front of a piece are done, and what is behind the last of them is held.
 pub record Fed (tells : Bool) (rest front here : List ℕ) (st0 st1 : Store) (r0 r1 : Bool) (s0 s1 : State) : Type 0 where

@@ -9,20 +9,20 @@ use Rattle.aria_engine.specs.Holds.{AreLogAlone}
 use Rattle.aria_engine.specs.Store.{tables_of, count_of, pages_of, NoFewerFaults}
 use Rattle.aria_engine.specs.Done.{AreMet, IsFull, Counts as Tallies}
 use Rattle.aria_tools.specs.declared.stop.Stop.{Stop}
-use Rattle.aria_tools.specs.Stops.{damage_of}
+use Rattle.aria_tools.specs.Stops.{named_fault}
 use Rattle.aria_tools.specs.Endings.{Supply, StopsBy, AnswersBy, Ends, Runs}
 
 -- the cause where lines are executed and the run stops, and what is answered then
 pub record LineStops (tells told_too : Bool) (stop : Stop) (supply supply_now : Supply) (st0 st1 : Store) (before now : State) : Type 0 where
   pub cause : StopsBy told_too stop supply supply_now before now
-  pub sound : damage_of stop ≡ None
+  pub sound : named_fault stop ≡ None
   pub by : IsTrue tells → IsTrue told_too → (exceptions : Exceptions) → AreMet exceptions (count_of st0) st1
       → AnswersBy stop supply supply_now (tables_of st0) exceptions before now
 
 -- a run that leads from one store to another
 pub record RunsOn (tells told_too : Bool) (supply supply_now : Supply) (result : Result Bool Stop) (st0 st1 : Store) (before now : State) : Type 0 where
   pub ends : Ends tells told_too supply supply_now result before now
-  pub sound : IfErr result (λ stop. damage_of stop ≡ None)
+  pub sound : IfErr result (λ stop. named_fault stop ≡ None)
   pub tallies : IsTrue tells → Tallies (lines_of supply.left) st0 st1
   pub runs : IsTrue tells → IsTrue told_too → AreLogAlone before → (exceptions : Exceptions) → AreMet exceptions (count_of st0) st1
       → Runs supply supply_now (tables_of st0) exceptions result before now
@@ -32,7 +32,7 @@ pub record RunsOn (tells told_too : Bool) (supply supply_now : Supply) (result :
 -- a run on a store that was opened for it, in which these exceptions were met
 pub record RunsFrom (tells told_too : Bool) (supply supply_now : Supply) (result : Result Bool Stop) (met : List Met) (store : Store) (before now : State) : Type 0 where
   pub ends : Ends tells told_too supply supply_now result before now
-  pub sound : IfErr result (λ stop. damage_of stop ≡ None)
+  pub sound : IfErr result (λ stop. named_fault stop ≡ None)
   pub full : IsTrue tells → All (IsFull (lines_of supply.left) 0 (pages_of store)) met
   pub runs : IsTrue tells → IsTrue told_too → AreLogAlone before → Runs supply supply_now (tables_of store) (met_at met) result before now
   pub silent : IsTrue told_too → now.err ≡ before.err

@@ -1,11 +1,12 @@
 //! Ends a run: the status, and the line on standard error.
 
-ghost use Rattle.std.specs.Prelude.{◌≡◌, ◌≤◌, List, ℕ, IsTrue, IfOk, OnErr, Err, Ok, false, true};
+ghost use Rattle.std.specs.Prelude.{◌≡◌, ◌≤◌, ◌∷◌, ◌++◌, [], List, ℕ, IsTrue, IfOk, OnErr, Err, Ok, false, true, codes, decimal};
 ghost use Rattle.std.specs.Prelude.{None, Some};
 ghost use Rattle.std.specs.Option.{option_map};
 ghost use Rattle.aria_host.specs.declared.fault.Fault.TheVariants as faults;
+ghost use Rattle.aria_host.specs.FileText.{file_text};
 ghost use Rattle.aria_tools.specs.Endings.{IsEnd, IsEndText, TellsErr, TellsText, status_text};
-ghost use Rattle.aria_tools.specs.Stops.{damage_of, damage_text, status_of};
+ghost use Rattle.aria_tools.specs.Stops.{NamesFault, fault_text, named_fault, status_of};
 
 use crate::stop::Stop;
 use aria_host::{FileName, Host, Stream};
@@ -23,43 +24,62 @@ fn status_text(status: u8) -> &'static [u8]
         4 => b"aria: disk fault\n",
         6 => b"aria: input fault\n",
         8 => b"aria: input too long\n",
+        10 => b"aria: too many tables\n",
         _ => b"",
     }
 }
 
-fn log_damaged_text(alloc: Global, file: u32, page: u32) -> Result<Bytes, AllocError>
-    ensures { IfOk result (λ text. text ≡ damage_text (faults.LogDamaged file page)) }
+// These words and a file's name, as one line.
+fn file_line(alloc: Global, words: &[u8], file: &FileName) -> Result<Bytes, AllocError>
+    ensures { IfOk result (λ line. line ≡ words.now ++ (file_text file.now ++ 10 ∷ [])) }
 {
-    let mut text = Bytes::from_slice(alloc, b"aria: damaged log ")?;
-    let name = FileName::Log(file).text(alloc)?;
-    text.extend_from_slice(name.as_slice())?;
-    text.extend_from_slice(b" page ")?;
-    let mut buffer = Buffer::new();
-    text.extend_from_slice(buffer.format(page).as_bytes())?;
-    text.push(b'\n')?;
-    Ok(text)
-}
-
-fn not_ours_text(alloc: Global, file: &FileName) -> Result<Bytes, AllocError>
-    ensures { IfOk result (λ text. text ≡ damage_text (faults.NotOurs file.now)) }
-{
-    let mut text = Bytes::from_slice(alloc, b"aria: not ours ")?;
+    let mut line = Bytes::from_slice(alloc, words)?;
     let name = file.text(alloc)?;
-    text.extend_from_slice(name.as_slice())?;
-    text.push(b'\n')?;
-    Ok(text)
+    line.extend_from_slice(name.as_slice())?;
+    line.push(b'\n')?;
+    Ok(line)
 }
 
-// The line that names the damage, where a run stopped at one.
-fn damage_text(alloc: Global, stop: &Stop) -> Result<Option<Bytes>, AllocError>
-    ensures text { IfOk result (λ text. text ≡ option_map damage_text (damage_of stop.now)) }
-    ensures memory { OnErr result (status_of stop.now ≡ 5) }
+// These words, a file's name and the number of a page in it, as one line.
+fn page_line(alloc: Global, words: &[u8], file: &FileName, page: u32) -> Result<Bytes, AllocError>
+    ensures { IfOk result (λ line. line ≡ words.now ++ (file_text file.now ++ (codes " page " ++ (decimal page ++ 10 ∷ [])))) }
 {
-    match stop {
-        Stop::LogDamaged { file, page } => Ok(Some(log_damaged_text(alloc, *file, *page)?)),
-        Stop::NotOurs { file } => Ok(Some(not_ours_text(alloc, file)?)),
-        _ => Ok(None),
-    }
+    let mut line = Bytes::from_slice(alloc, words)?;
+    let name = file.text(alloc)?;
+    line.extend_from_slice(name.as_slice())?;
+    line.extend_from_slice(b" page ")?;
+    let mut buffer = Buffer::new();
+    line.extend_from_slice(buffer.format(page).as_bytes())?;
+    line.push(b'\n')?;
+    Ok(line)
+}
+
+fn log_spent_line(alloc: Global, file: u32) -> Result<Bytes, AllocError>
+    ensures { IfOk result (λ line. line ≡ fault_text (faults.LogSpent file)) }
+{
+    let mut line = Bytes::from_slice(alloc, b"aria: log spent ")?;
+    let mut buffer = Buffer::new();
+    line.extend_from_slice(buffer.format(file).as_bytes())?;
+    line.push(b'\n')?;
+    Ok(line)
+}
+
+// The line that names the fault, where a run stopped at one that is named.
+fn fault_text(alloc: Global, stop: &Stop) -> Result<Option<Bytes>, AllocError>
+    ensures text { IfOk result (λ text. text ≡ option_map fault_text (named_fault stop.now)) }
+    ensures memory { OnErr result (NamesFault (status_of stop.now)) }
+{
+    Ok(Some(match stop {
+        Stop::LogDamaged { file, page } => {
+            page_line(alloc, b"aria: damaged log ", &FileName::Log(*file), *page)?
+        }
+        Stop::PageDamaged { file, page } => page_line(alloc, b"aria: damaged page ", file, *page)?,
+        Stop::ControlDamaged => Bytes::from_slice(alloc, b"aria: damaged control\n")?,
+        Stop::FileMissing { file } => file_line(alloc, b"aria: missing ", file)?,
+        Stop::NotOurs { file } => file_line(alloc, b"aria: not ours ", file)?,
+        Stop::LogSpent { file } => log_spent_line(alloc, *file)?,
+        _ => return Ok(None),
+    }))
 }
 
 // Tells a line on standard error. A fault while it is told changes nothing more.
@@ -80,10 +100,10 @@ fn end_stopped<H: Host>(alloc: Global, host: &mut H, stop: &Stop) -> u8
     ensures later { (H.state host.old).tell_faults ≤ (H.state host.new).tell_faults }
     ensures disk { (H.state host.new).disk_faults ≡ (H.state host.old).disk_faults }
 {
-    match damage_text(alloc, stop) {
+    match fault_text(alloc, stop) {
         Ok(Some(text)) => {
             tell_line(host, text.as_slice());
-            5
+            stop.status()
         }
         Ok(None) => {
             let status = stop.status();
@@ -98,7 +118,7 @@ fn end_stopped<H: Host>(alloc: Global, host: &mut H, stop: &Stop) -> u8
 }
 
 /// Ends a run: tells the line of its status on standard error, and gives the status. Without memory for a line that
-/// names a damage it ends with want of memory.
+/// names a fault it ends with want of memory.
 pub fn end<H: Host>(alloc: Global, host: &mut H, outcome: &Result<bool, Stop>) -> u8
     ensures status { IsEnd outcome.now result }
     ensures told { IsTrue H.tells → (text : List ℕ) × IsEndText outcome.now result text × TellsText text (H.state host.old) (H.state host.new) }

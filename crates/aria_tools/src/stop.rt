@@ -19,6 +19,12 @@ pub enum Stop {
     Input,
     Tell,
     TooLong,
+    /// No more can be appended to the log, whose last file has this number.
+    LogSpent { file: u32 },
+    ControlDamaged,
+    PageDamaged { file: FileName, page: u32 },
+    FileMissing { file: FileName },
+    TooManyTables,
 }
 
 impl Stop {
@@ -29,10 +35,16 @@ impl Stop {
         match self {
             Stop::Memory => 3,
             Stop::Disk => 4,
-            Stop::LogDamaged { .. } | Stop::NotOurs { .. } => 5,
+            Stop::LogDamaged { .. }
+            | Stop::ControlDamaged
+            | Stop::NotOurs { .. }
+            | Stop::PageDamaged { .. }
+            | Stop::FileMissing { .. } => 5,
             Stop::Input => 6,
             Stop::Tell => 7,
             Stop::TooLong => 8,
+            Stop::LogSpent { .. } => 9,
+            Stop::TooManyTables => 10,
         }
     }
 }
@@ -61,7 +73,12 @@ impl From<Fault> for Stop {
             Fault::Memory(_) => Stop::Memory,
             Fault::Disk => Stop::Disk,
             Fault::LogDamaged { file, page } => Stop::LogDamaged { file, page },
+            Fault::LogSpent { file } => Stop::LogSpent { file },
+            Fault::ControlDamaged => Stop::ControlDamaged,
             Fault::NotOurs { file } => Stop::NotOurs { file },
+            Fault::PageDamaged { file, page } => Stop::PageDamaged { file, page },
+            Fault::FileMissing { file } => Stop::FileMissing { file },
+            Fault::TooManyTables => Stop::TooManyTables,
             Fault::Input => Stop::Input,
             Fault::Tell => Stop::Tell,
         }

@@ -8,7 +8,7 @@ use Rattle.aria_host.proofs.Moments.{weakened}
 use Rattle.aria_engine.proofs.Opening.{each_reads, some_reads}
 use Rattle.aria_tools.specs.Endings.{Began, Prefix, BeganOrPrefix}
 use Rattle.aria_tools.specs.Pieces.{supply}
-use Rattle.aria_tools.proofs.Commands.{began_or_prefix, each_prefix, each_some, moments_after, refused_is, all_answered, ended_ok, ended_answered, full_answered, front_told, text_is, text_after, completes, sound_where}
+use Rattle.aria_tools.proofs.Commands.{began_or_prefix, each_prefix, each_some, moments_after, refused_is, all_answered, ended_ok, ended_answered, full_answered, front_told, text_is, text_after, completes, sound_where, run_statuses}
 use Rattle.aria_tools.proofs.command.aria.Goals as goal
 
 pub returns-clause-any_moment : goal.returns-clause-any_moment
@@ -124,3 +124,9 @@ returns-clause-complete g c run ti to world reads short disk tell input =
 pub returns-clause-sound : goal.returns-clause-sound
 returns-clause-sound g c which to =
     sound_where c.run-ran.result.outcome (g.H.Host.state c.args.host.now).folder c.end.result (c.run-ran.ensures.sound to) c.end.ensures.status which
+
+pub returns-clause-statuses : goal.returns-clause-statuses
+returns-clause-statuses g c =
+    run_statuses g.S.Source.tells g.H.Host.tells (supply (g.S.Source.left c.args.input.now) (g.S.Source.taken c.args.input.now) (g.S.Source.faults c.args.input.now))
+    (supply (g.S.Source.left c.run-ran.new.input) (g.S.Source.taken c.run-ran.new.input) (g.S.Source.faults c.run-ran.new.input))
+    c.run-ran.result.outcome c.end.result (g.H.Host.state c.args.host.now) (g.H.Host.state c.run-ran.new.host) c.run-ran.ensures.ends c.end.ensures.status
