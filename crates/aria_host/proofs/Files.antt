@@ -1,5 +1,5 @@
 -- Names of files, and what changes of one file do to a folder.
-use Rattle.std.proofs.Common.{◌≡◌, ◌==◌, inl, inr, ℕ, suc, ◌+◌, ◌-◌, ◌<◌, max, Bool, true, false, cond, Option, List, ◌∷◌, ◌++◌, length, take, drop, replicate, get_or, refl, sym, ◌∙◌, ap, subst, arith, length-append, length-drop, append_assoc}
+use Rattle.std.proofs.Common.{◌≡◌, ◌==◌, inl, inr, ℕ, suc, ◌+◌, ◌-◌, ◌<◌, max, Bool, true, false, cond, Option, None, Some, is_some, List, ◌∷◌, ◌++◌, length, take, drop, replicate, get_or, refl, sym, ◌∙◌, ap, subst, arith, length-append, length-drop, append_assoc}
 use Rattle.std.specs.Cmp.Lexicographic.{bytes_decides}
 use Rattle.std.proofs.lemmas.Bool.{cases_lt, cases_order, eqb-true, eq-eqb, false_from_ne_true}
 use Rattle.std.proofs.lemmas.List.{length-take, length-replicate, get_or_append_left, get_or-append_right, get_or-take, get_or-drop, get_or-replicate, get_or_past, get_or_at}
@@ -36,6 +36,11 @@ with_file-same file content folder = ap (λ (b : Bool). cond b content (folder f
 -- another file stays
 pub with_file-other : (file f : FileName) (content : Option (List (List ℕ))) (folder : Folder) → same_file file f ≡ false → with_file file content folder f ≡ folder f
 with_file-other file f content folder other = ap (λ (b : Bool). cond b content (folder f)) other
+
+-- a file with other pages is there where the file is
+pub still_there : (F : List (List ℕ) → List (List ℕ)) (content : Option (List (List ℕ))) → is_some (option_map F content) ≡ is_some content
+still_there F None = refl
+still_there F (Some pages) = refl
 
 -- the pages after a page was put
 pub length-put_page : (at : ℕ) (page : List ℕ) (pages : List (List ℕ)) → length (put_page at page pages) ≡ max (length pages) (at + 1)

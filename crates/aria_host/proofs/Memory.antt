@@ -1,16 +1,20 @@
 -- What a call of the host in memory means for what the host stands for.
-use Rattle.std.proofs.Common.{◌≡◌, ◌⊎◌, inl, inr, ⊎_elim, ℕ, ◌≤◌, true, false, List, [], ◌∷◌, ◌++◌, length, take, drop, reverse, refl, sym, ◌∙◌, ap, subst, arith}
+use Rattle.std.proofs.Common.{◌≡◌, ◌⊎◌, inl, inr, ⊎_elim, ℕ, ◌≤◌, true, false, List, [], ◌∷◌, ◌++◌, length, take, drop, reverse, Bool, cond, Option, None, Some, is_some, unwrap_or, refl, sym, ◌∙◌, ap, subst, arith}
 use Rattle.std.proofs.lemmas.List.{reverse-append, append-nil}
 use Rattle.std.proofs.Math.Seq.{take-length, drop-append_seam, drop-length, take-nil}
 use Rattle.std.proofs.lemmas.Grind.{common_steps}
+use Rattle.std.specs.Option.{option_map}
+use Rattle.std.proofs.lemmas.Bool.{cases_Bool}
 use Rattle.aria_host.specs.declared.host.Stream.{Stream}
 use Rattle.aria_host.specs.declared.host.Stream.TheVariants.{Out, Err}
 use Rattle.aria_host.specs.declared.effect.Effect.{Effect}
-use Rattle.aria_host.specs.declared.effect.Effect.TheVariants.{Told, Synced}
+use Rattle.aria_host.specs.declared.effect.Effect.TheVariants.{Wrote, Cut, Created, Removed, Set, Told, Synced}
 use Rattle.aria_host.specs.declared.file_name.FileName.{FileName}
 use Rattle.aria_host.specs.declared.mem_host.MemHost.{MemHost}
-use Rattle.aria_host.specs.Calls.{told_on, other_stream, Tells, TellsNothing, Unchanged, Changes, Syncs}
+use Rattle.aria_host.specs.Calls.{told_on, other_stream, Tells, TellsNothing, Unchanged, HaveNames, Narrows, Changes, Syncs}
+use Rattle.aria_host.specs.Folder.{same_file, put_page, with_file}
 use Rattle.aria_host.specs.State.{Folder, told}
+use Rattle.aria_host.proofs.Files.{same_file-true, still_there}
 use Rattle.aria_host.specs.Effect.{no_files, reads, MayLeave, told_before, Earlier, Since}
 use Rattle.aria_host.specs.MemHost.{mem_state, base_of, past_of, Adds, AddsChange, SameRecord}
 
@@ -184,7 +188,7 @@ synced file old new adds =
     let change = Synced file in
     let made = change_made change old new adds in
     record {
-      durable = λ _ c leaves. (back change [] old new made (λ g l o. MayLeave g l c) leaves).1;
+      durable = λ _ c leaves there. (back change [] old new made (λ g l o. MayLeave g l c) leaves).1;
       no_more = λ c leaves. (back change [] old new made (λ g l o. MayLeave g l c) leaves).0;
       folder = along change [] old new made (λ g l o. reads g l ≡ (mem_state old).folder) refl;
       tells = change_tells change old new adds (λ _. refl);
@@ -222,6 +226,65 @@ unchanged old new same = record {
     no_more = λ c leaves. kept new old (turned old new same) (λ f l o. MayLeave f l c) leaves;
     no_fewer = λ c leaves. kept old new same (λ f l o. MayLeave f l c) leaves;
   };
+  tells = same_tells old new same;
+}
+
+-- the names of a folder with a file as said, where those of the folder are known
+named_with : (g f : FileName) (now was : Option (List (List ℕ))) (d r : Folder) → is_some now ≡ is_some was → is_some (d f) ≡ is_some (r f)
+    → is_some (with_file g now d f) ≡ is_some (with_file g was r f)
+named_with g f now was d r here there = elim (cases_Bool (same_file g f)) [
+  | inl same ↦ ap (λ (b : Bool). is_some (cond b now (d f))) same ∙ here ∙ sym (ap (λ (b : Bool). is_some (cond b was (r f))) same)
+  | inr other ↦ ap (λ (b : Bool). is_some (cond b now (d f))) other ∙ there ∙ sym (ap (λ (b : Bool). is_some (cond b was (r f))) other)
+]
+
+-- the names of a folder with a file changed
+named_kept : (g f : FileName) (F G : List (List ℕ) → List (List ℕ)) (d r : Folder) → is_some (d g) ≡ is_some (r g) → is_some (d f) ≡ is_some (r f)
+    → is_some (with_file g (option_map F (d g)) d f) ≡ is_some (with_file g (option_map G (r g)) r f)
+named_kept g f F G d r here there =
+    named_with g f (option_map F (d g)) (option_map G (r g)) d r (still_there F (d g) ∙ here ∙ sym (still_there G (r g))) there
+
+-- the names of a folder stay where a file is changed
+same_names : (g f : FileName) (F : List (List ℕ) → List (List ℕ)) (r : Folder) → is_some (with_file g (option_map F (r g)) r f) ≡ is_some (r f)
+same_names g f F r = elim (cases_Bool (same_file g f)) [
+  | inl same ↦
+      ap (λ (b : Bool). is_some (cond b (option_map F (r g)) (r f))) same ∙ still_there F (r g) ∙ ap (λ (h : FileName). is_some (r h)) (same_file-true g f same)
+  | inr other ↦ ap (λ (b : Bool). is_some (cond b (option_map F (r g)) (r f))) other
+]
+
+-- an image has the names of the folder as it reads
+names_kept : (base : Folder) (past : List Effect) (c : Folder) → MayLeave base past c → (f : FileName) → is_some (c f) ≡ is_some (reads base past f)
+names_kept base [] c is f = ap (λ (d : Folder). is_some (d f)) is
+names_kept base (Wrote g at page ∷ past) c (d, leaves, inl lost) f =
+    ap (λ (e : Folder). is_some (e f)) lost ∙ names_kept base past d leaves f ∙ sym (same_names g f (put_page at page) (reads base past))
+names_kept base (Wrote g at page ∷ past) c (d, leaves, inr (inl kept)) f =
+    ap (λ (e : Folder). is_some (e f)) kept ∙ named_kept g f (put_page at page) (put_page at page) d (reads base past) (names_kept base past d leaves g) (names_kept base past d leaves f)
+names_kept base (Wrote g at page ∷ past) c (d, leaves, inr (inr (log, torn, long, sums, is))) f =
+    ap (λ (e : Folder). is_some (e f)) is ∙ named_kept g f (put_page at torn) (put_page at page) d (reads base past) (names_kept base past d leaves g) (names_kept base past d leaves f)
+names_kept base (Cut g n ∷ past) c (d, leaves, inl lost) f =
+    ap (λ (e : Folder). is_some (e f)) lost ∙ names_kept base past d leaves f ∙ sym (same_names g f (take n) (reads base past))
+names_kept base (Cut g n ∷ past) c (d, leaves, inr kept) f =
+    ap (λ (e : Folder). is_some (e f)) kept ∙ named_kept g f (take n) (take n) d (reads base past) (names_kept base past d leaves g) (names_kept base past d leaves f)
+names_kept base (Created g ∷ past) c (d, leaves, inl made) f =
+    ap (λ (e : Folder). is_some (e f)) made ∙ named_with g f (Some []) (Some []) d (reads base past) refl (names_kept base past d leaves f)
+names_kept base (Created g ∷ past) c (d, leaves, inr (not_done, is)) f = absurd (cc)
+names_kept base (Removed g ∷ past) c (d, leaves, inl made) f =
+    ap (λ (e : Folder). is_some (e f)) made ∙ named_with g f None None d (reads base past) refl (names_kept base past d leaves f)
+names_kept base (Removed g ∷ past) c (d, leaves, inr (not_done, is)) f = absurd (cc)
+names_kept base (Synced g ∷ past) c (leaves, is) f = names_kept base past c leaves f
+names_kept base (Set g at page ∷ past) c (d, leaves, is) f =
+    ap (λ (e : Folder). is_some (e f)) is
+    ∙ named_with g f (Some (put_page at page (unwrap_or (d g) []))) (Some (put_page at page (unwrap_or (reads base past g) []))) d (reads base past) refl (names_kept base past d leaves f)
+names_kept base (Told stream n ∷ past) c leaves f = names_kept base past c leaves f
+
+-- at each moment the host in memory has its names on the disk
+pub mem_names : (host : MemHost) → HaveNames (mem_state host)
+mem_names host c leaves f form = names_kept (base_of host) (past_of host) c leaves f
+
+-- listing names changes nothing there
+pub mem_narrows : (old new : MemHost) → SameRecord old new → Narrows (mem_state old) (mem_state new)
+mem_narrows old new same = record {
+  folder = (unchanged old new same).folder;
+  no_more = (unchanged old new same).images.no_more;
   tells = same_tells old new same;
 }
 

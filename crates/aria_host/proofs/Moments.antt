@@ -1,5 +1,7 @@
 -- How what a crash may leave is followed over a run of calls.
-use Rattle.std.proofs.Common.{◌≡◌, inl, inr, ⊎_elim, ℕ, List, ◌++◌, take, subst, sym, arith}
+use Rattle.std.proofs.Common.{◌≡◌, ◌≤◌, inl, inr, ⊎_elim, ℕ, zero, suc, List, [], ◌++◌, take, refl, ap, ◌∙◌, subst, sym, arith}
+use Rattle.std.proofs.lemmas.List.{append-nil}
+use Rattle.aria_host.specs.Calls.{Unchanged, Narrows}
 use Rattle.aria_host.specs.State.{Folder, State, Elapses, LeavesOnly}
 
 -- a run of no call
@@ -38,3 +40,34 @@ weakened old new P Q run implies = record {
   each = λ f told left. implies f told (run.each f told left);
   before = λ t f told le left. ⊎_elim (λ was. inl was) (λ p. inr (implies f told p)) (run.before t f told le left);
 }
+
+-- a call that only looks
+pub looks : (old new : State) → Unchanged old new → Narrows old new
+looks old new same = record { folder = same.folder; no_more = same.images.no_more; tells = same.tells }
+
+-- names are brought to the disk behind a call that only looks
+pub looked_first : (a b c : State) → ((t : ℕ) (f : Folder) → t ≤ a.moment → a.may_leave f → a.since t f a.out) → Unchanged a b → Narrows b c → Narrows a c
+looked_first a b c counts first next = record {
+  folder = next.folder ∙ first.folder;
+  no_more = λ f leaves. first.images.no_more f (next.no_more f leaves);
+  tells = record {
+    out = next.tells.out ∙ first.tells.out;
+    err = next.tells.err ∙ first.tells.err;
+    time = record {
+      later = omega (arith, first.tells.time.later, next.tells.time.later);
+      nothing_else = λ t f told le left.
+          ⊎_elim (λ was. ⊎_elim (λ before. inl before) (λ now. inl (at_first t f told le now)) (first.tells.time.nothing_else t f told le was))
+          (λ now. inr (now.0, now.1, now.2 ∙ ap (λ (l : List ℕ). l ++ take now.1 []) first.tells.out))
+          (next.tells.time.nothing_else t f told (omega (arith, le, first.tells.time.later)) left);
+      keeps = λ t f told le left. next.tells.time.keeps t f told (omega (arith, le, first.tells.time.later)) (first.tells.time.keeps t f told le left);
+    };
+  };
+}
+  where
+    none_of : (n : ℕ) → take {A = ℕ} n [] ≡ []
+    none_of zero = refl
+    none_of (suc n) = refl
+
+    at_first : (t : ℕ) (f : Folder) (told : List ℕ) → t ≤ a.moment → b.may_leave f × (n : ℕ) × (told ≡ a.out ++ take n []) → a.since t f told
+    at_first t f told le (leaves, n, is) =
+        subst (λ (l : List ℕ). a.since t f l) (sym (is ∙ ap (λ (l : List ℕ). a.out ++ l) (none_of n) ∙ append-nil a.out)) (counts t f le (first.images.no_more f leaves))

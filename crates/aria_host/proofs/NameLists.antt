@@ -13,7 +13,7 @@ use Rattle.aria_host.specs.declared.file_name.FileName.TheVariants.{Control, Log
 use Rattle.aria_host.specs.Folder.{Folder, IsFileName, is_form, same_file, put_page, with_file}
 use Rattle.aria_host.specs.Effect.{no_files, after, reads}
 use Rattle.aria_host.specs.Listing.{noted, names_after, IsListed}
-use Rattle.aria_host.proofs.Files.{same_file-refl, same_file-true}
+use Rattle.aria_host.proofs.Files.{same_file-refl, same_file-true, still_there}
 use Rattle.aria_host.proofs.OnePass.{reads_more}
 
 -- the test of the forms
@@ -184,10 +184,6 @@ listed_kept g F folder names listed = record {
         | inr other ↦ listed.once f form ∙ sym (expected g f (option_map F (folder g)) folder false other)
       ];
 }
-  where
-    still_there : (F : List (List ℕ) → List (List ℕ)) (content : Content) → is_some (option_map F content) ≡ is_some content
-    still_there F None = refl
-    still_there F (Some pages) = refl
 
 -- any change
 listed_after : (change : Effect) (folder : Folder) (names : List FileName) → IsListed folder names → IsListed (after change folder) (names_after change names)

@@ -1,5 +1,5 @@
 -- What each call of a host does.
-use Rattle.std.specs.Prelude.{◌≡◌, ◌⊎◌, ◌≤◌, ℕ, if◌then◌else◌, Bool, false, IsTrue, Option, None, Some, is_some, List, [], ◌++◌, length, take, count_by, Result, IfErr, IsErrOf, OnOk, alloc_error}
+use Rattle.std.specs.Prelude.{◌≡◌, ◌⊎◌, ◌≤◌, ℕ, if◌then◌else◌, Bool, false, IsTrue, Option, None, Some, is_some, IsSome, List, [], ◌++◌, length, take, count_by, Result, IfErr, IsErrOf, OnOk, alloc_error}
 use Rattle.std.specs.Option.{option_map}
 use Rattle.aria_host.specs.declared.fault.Fault.{Fault}
 use Rattle.aria_host.specs.declared.fault.Fault.TheVariants.{Memory, Disk, Tell}
@@ -73,9 +73,19 @@ Creates file old new done = Changes (with_file file (Some [])) (MayMake file (So
 abbrev pub Removes : FileName → State → State → Bool → Type 0
 Removes file old new done = Changes (with_file file None) (MayMake file None done) old new done
 
--- A file is brought to the disk: where that is done, a crash leaves what a read gives.
+-- every image has the names of the folder as it reads
+abbrev pub HaveNames : State → Type 0
+HaveNames s = (c : Folder) → s.may_leave c → (f : FileName) → IsFileName f → is_some (c f) ≡ is_some (s.folder f)
+
+-- A call that only looks, but may bring names to the disk: a crash now leaves what one before might have left.
+pub record Narrows (old new : State) : Type 0 where
+  pub folder : new.folder ≡ old.folder
+  pub no_more : (c : Folder) → new.may_leave c → old.may_leave c
+  pub tells : TellsNothing old new
+
+-- A file is brought to the disk: where that is done, a crash leaves what a read gives, or takes the file with its name.
 pub record Syncs (file : FileName) (old new : State) (done : Bool) : Type 0 where
-  pub durable : IsTrue done → (c : Folder) → new.may_leave c → c file ≡ old.folder file
+  pub durable : IsTrue done → (c : Folder) → new.may_leave c → IsSome (c file) → c file ≡ old.folder file
   pub no_more : (c : Folder) → new.may_leave c → old.may_leave c
   pub folder : new.folder ≡ old.folder
   pub tells : TellsNothing old new

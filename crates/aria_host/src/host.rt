@@ -1,7 +1,7 @@
 ghost use Rattle.std.specs.Prelude.{◌≡◌, ◌≤◌, ◌<◌, ◌^◌, ℕ, List, Bool, IsTrue, IsSome, IsNone, is_ok, IfOk, IfSome, OnOk, All};
 ghost use Rattle.aria_host.specs.Folder.{Folder, IsFileName, page_count};
 ghost use Rattle.aria_host.specs.State.{State};
-ghost use Rattle.aria_host.specs.Calls.{Lists, extent_of, IsPage, Unchanged, Writes, Cuts, Creates, Removes, Syncs, Tells, HasTellCause, HasDiskCause, HasDiskOrMemoryCause};
+ghost use Rattle.aria_host.specs.Calls.{Lists, extent_of, IsPage, Unchanged, HaveNames, Narrows, Writes, Cuts, Creates, Removes, Syncs, Tells, HasTellCause, HasDiskCause, HasDiskOrMemoryCause};
 
 use crate::{Fault, FileName};
 use aria_page::{List, Page};
@@ -33,11 +33,13 @@ pub trait Host {
     /// The folder, what was told, and what a crash may leave.
     ghost state: { Self → State };
 
-    /// The names of all files of the folder that are of the forms of `FileName`.
+    /// The names of all files of the folder that are of the forms of `FileName`. It brings them to the disk: after it,
+    /// a crash leaves the files of these names, and no others.
     fn names(&mut self, alloc: Global) -> Result<List<FileName>, Fault>
         ensures names { IsTrue tells → IfOk result (λ names. Lists (state self.old).folder names) }
         ensures forms { IfOk result (λ names. All IsFileName names) }
-        ensures same { IsTrue tells → Unchanged (state self.old) (state self.new) }
+        ensures synced { IsTrue tells → OnOk result (HaveNames (state self.new)) }
+        ensures same { IsTrue tells → Narrows (state self.old) (state self.new) }
         ensures cause { HasDiskOrMemoryCause (state self.old) (state self.new) result };
 
     /// How long the file is, or `None` where it isn't there.
@@ -86,7 +88,8 @@ pub trait Host {
         ensures removed { IsTrue tells → Removes file.now (state self.old) (state self.new) (is_ok result) }
         ensures cause { HasDiskCause (state self.old) (state self.new) result };
 
-    /// Brings the file to the disk: after it, a crash leaves what a read gives.
+    /// Brings the file to the disk: after it, a crash that leaves the file's name leaves what a read gives. Its name is
+    /// on the disk once `create` or `names` has answered Ok.
     fn sync(&mut self, file: &FileName) -> Result<(), Fault>
         requires name { IsFileName file.now }
         requires there { IsTrue tells → IsSome ((state self.old).folder file.now) }

@@ -4,7 +4,7 @@ ghost use Rattle.std.specs.Option.{option_map, option_map_or, option_copied};
 ghost use Rattle.aria_page.specs.Page.{zero_page};
 ghost use Rattle.aria_host.specs.Count.{Rose};
 ghost use Rattle.aria_host.specs.Folder.{Folder, IsFileName, page_count, page_at};
-ghost use Rattle.aria_host.specs.Calls.{Lists, extent_of, IsPage, Unchanged, Changes, Writes, Cuts, Creates, Removes, Syncs, Tells, HasTellCause, HasDiskCause, HasDiskOrMemoryCause, told_on};
+ghost use Rattle.aria_host.specs.Calls.{Lists, extent_of, IsPage, Unchanged, HaveNames, Narrows, Changes, Writes, Cuts, Creates, Removes, Syncs, Tells, HasTellCause, HasDiskCause, HasDiskOrMemoryCause, told_on};
 ghost use Rattle.aria_host.specs.State.{told};
 ghost use Rattle.aria_host.specs.Effect.{with_set};
 ghost use Rattle.aria_host.specs.Seen.{page_or_zero};
@@ -312,7 +312,10 @@ impl Host for MemHost {
     fn names(&mut self, alloc: Global) -> Result<List<FileName>, Fault>
         ensures names { IfOk result (λ names. Lists (mem_state self.old).folder names) }
         ensures forms { IfOk result (λ names. All IsFileName names) }
-        ensures same { Unchanged (mem_state self.old) (mem_state self.new) }
+        ensures synced { OnOk result (HaveNames (mem_state self.new)) }
+        ensures same { Narrows (mem_state self.old) (mem_state self.new) }
+        // Here the names are on the disk at each moment.
+        ensures images { Unchanged (mem_state self.old) (mem_state self.new) }
         ensures cause { HasDiskOrMemoryCause (mem_state self.old) (mem_state self.new) result }
         // It fails where that is planned, and else only for want of memory.
         ensures planned { will_fail self.old ≡ true → IsErrOf result Fault.Disk }

@@ -154,7 +154,7 @@ impl OpenFiles {
         }
     }
 
-    /// The names of the files of the forms of `FileName`.
+    /// The names of the files of the forms of `FileName`, which it brings to the disk.
     pub(crate) fn names(&self, alloc: Global) -> io::Result<List<FileName>>
         ensures { IfOk result (λ names. All IsFileName names) }
     {
@@ -164,6 +164,7 @@ impl OpenFiles {
                 names.push(name)?;
             }
         }
+        sync_folder(&self.rt)?;
         Ok(names)
     }
 
