@@ -16,7 +16,7 @@ use Rattle.aria_journal.specs.Runs.{IsRun, IsWhole, HoldsFrom, begins_next}
 use Rattle.aria_journal.specs.Log.{log_file, LogMoments, LogKeeps, IsImage, IsWriting, IsAt, IsLog, Wrote, Adds}
 use Rattle.aria_journal.proofs.FrameLists.{all_found, length-frame_bytes}
 use Rattle.aria_journal.proofs.Images.{image_from, whole_and_run}
-use Rattle.aria_journal.proofs.Writing.{OnlyNow, one_call, one_after, more_at_log}
+use Rattle.aria_journal.proofs.Writing.{OnlyNow, is_there, one_call, one_after, more_at_log}
 use Rattle.aria_journal.proofs.Appending.{nothing_moves, image_now}
 
 -- a frame more, as it is stored
@@ -183,6 +183,7 @@ closed_forced log mid log' a b c frames forced is wrote syncs number_is begins u
     let all : take forced frames ++ frames_in text ≡ frames = ap (λ (l : List (List ℕ)). take forced frames ++ l) found ∙ take-append-drop forced frames in
     let whole : IsWhole (is.base ++ pages) frames = subst (λ (l : List (List ℕ)). IsWhole (is.base ++ pages) l) all (whole_and_run true is.base pages (take forced frames) text is.whole writing.run) in
     let folder : c.folder log_file ≡ Some (is.base ++ pages) = ap (λ (g : Folder). g log_file) syncs.folder ∙ writing.folder in
-    settled_log log' c (is.base ++ pages) frames whole folder (λ f leaves. syncs.durable refl f leaves ∙ writing.folder)
+    settled_log log' c (is.base ++ pages) frames whole folder
+    (λ f leaves. let was = writing.images f (syncs.no_more f leaves) in syncs.durable refl f leaves (is_there (f log_file) (is.base ++ was.0) was.1) ∙ writing.folder)
     (number_is ∙ filled.number_is ∙ ap (λ (k : ℕ). length is.base + k) (sym (length_push is.at.written wrote.page)) ∙ sym (length-append is.base pages))
     begins (used ∙ filled.used_is) (ap (drop 16) page ∙ filled.body_is)

@@ -1,10 +1,11 @@
 -- A log that is started: its file is made, or cut to its end, and brought to the disk.
-use Rattle.std.proofs.Common.{◌≡◌, ⊎_elim, rules, ℕ, suc, ◌+◌, ◌≤◌, Bool, true, false, cond, Option, None, Some, unwrap_or, List, [], ◌∷◌, length, take, drop, refl, sym, ◌∙◌, ap, subst, arith}
+use Rattle.std.proofs.Common.{◌≡◌, ⊎_elim, rules, ℕ, suc, ◌+◌, ◌≤◌, Bool, true, false, cond, IsTrue, inl, inr, Option, None, Some, unwrap_or, List, [], ◌∷◌, length, take, drop, refl, sym, ◌∙◌, ap, subst, arith}
 use Rattle.std.specs.Prelude.{IsSome}
 use Rattle.std.specs.Option.{option_map}
 use Rattle.std.proofs.lemmas.List.{length-take, take_all, drop_all}
 use Rattle.aria_host.specs.Folder.{Folder, with_file}
 use Rattle.aria_host.specs.State.{State}
+use Rattle.aria_host.specs.Steps.{MayMake}
 use Rattle.aria_host.specs.Calls.{Syncs, Creates, Cuts, Unchanged}
 use Rattle.aria_host.proofs.Files.{with_file-same, with_file-other}
 use Rattle.aria_journal.specs.declared.log.Log.{Log as LogValue}
@@ -12,7 +13,7 @@ use Rattle.aria_journal.specs.Front.{Piece, is_full, piece_at, front, frames_of_
 use Rattle.aria_journal.specs.Runs.{IsWhole, HoldsFrames}
 use Rattle.aria_journal.specs.Log.{log_file, log_pages, log_of, SameOthers, LogMoments, IsLogAtRest, IsOpened, IsLog, Prepared, HasPages}
 use Rattle.aria_journal.proofs.Fronts.{front_some, front_none, front_nil, quiet_nil}
-use Rattle.aria_journal.proofs.Writing.{OnlyNow, one_call, one_after}
+use Rattle.aria_journal.proofs.Writing.{OnlyNow, is_there, one_call, one_after}
 use Rattle.aria_journal.proofs.Appending.{nothing_moves}
 use Rattle.aria_journal.proofs.Forcing.{sync_step, settled_log}
 
@@ -73,7 +74,7 @@ pub rest_holds : (s : State) → damaged_at (log_pages s.folder) ≡ None → Is
 rest_holds s sound rest c leaves = holds_same (c log_file) (log_pages s.folder) sound (ap (λ (o : Option (List (List ℕ))). unwrap_or o []) (rest c leaves))
 
 -- other files stay where the log's file is made anew or cut
-others_kept : (content : Option (List (List ℕ))) (d c : Folder) → c ≡ with_file log_file content d → SameOthers d c
+pub others_kept : (content : Option (List (List ℕ))) (d c : Folder) → c ≡ with_file log_file content d → SameOthers d c
 others_kept content d c is f other = ap (λ (g : Folder). g f) is ∙ with_file-other log_file f content d other
 
 -- a look changes nothing of the log
@@ -95,7 +96,12 @@ created log old new done only is rest absent makes =
           (⊎_elim (λ same f other. ap (λ (g : Folder). g f) same) (λ made. others_kept (Some []) old.folder new.folder made) makes.either) (rest_holds old is.sound rest) after;
       folder = λ finished. ap (λ (g : Folder). g log_file) (makes.whole finished) ∙ with_file-same log_file (Some []) old.folder ∙ ap Some (sym empty);
       images = λ c leaves. (after c leaves).0;
+      there = λ finished c leaves. let (d, was, step) = makes.images c leaves in made_there finished c d step;
     }
+  where
+    made_there : IsTrue done → (c d : Folder) → MayMake log_file (Some []) done d c → IsSome (c log_file)
+    made_there finished c d (inl made) = is_there (c log_file) [] (ap (λ (g : Folder). g log_file) made ∙ with_file-same log_file (Some []) d)
+    made_there finished c d (inr stays) = let never = stays.0 in absurd (cc)
 
 -- the file was cut to the log's end
 pub was_cut : (log : LogValue) (old new : State) (done : Bool) (end : ℕ) → OnlyNow old → IsOpened log old.folder → IsLogAtRest old → IsSome (old.folder log_file) → end ≡ end_of (log_pages old.folder)
@@ -118,6 +124,10 @@ was_cut log old new done end only is rest there at cuts =
           (⊎_elim (λ same f other. ap (λ (g : Folder). g f) same) (λ short. others_kept (option_map (take end) (old.folder log_file)) old.folder new.folder short) cuts.either) (rest_holds old is.sound rest) after;
       folder = λ finished. ap (λ (g : Folder). g log_file) (cuts.whole finished) ∙ with_file-same log_file (option_map (take end) (old.folder log_file)) old.folder ∙ cut_is old.folder refl;
       images = λ c leaves. (after c leaves).0;
+      there = λ finished c leaves.
+          let (d, was, step) = cuts.images c leaves in
+          ⊎_elim (λ stays. is_there (c log_file) (log_pages old.folder) (ap (λ (g : Folder). g log_file) stays ∙ rest d was ∙ is_pages (old.folder log_file) there))
+          (λ short. is_there (c log_file) (take (end_of (log_pages old.folder)) (log_pages old.folder)) (ap (λ (g : Folder). g log_file) short ∙ with_file-same log_file (option_map (take end) (d log_file)) d ∙ cut_is d (rest d was))) step;
     }
   where
     is_pages : (o : Option (List (List ℕ))) → IsSome o → o ≡ Some (unwrap_or o [])
@@ -133,6 +143,7 @@ fits_already log s pages only is rest (content, there, size) le =
       keeps = nothing_moves s (λ content. HoldsFrames content (log_of s.folder)) only (rest_holds s is.sound rest);
       folder = λ done. there ∙ ap Some (sym all);
       images = rest_holds s is.sound rest;
+      there = λ done c leaves. is_there (c log_file) content (rest c leaves ∙ there);
     }
 
 -- what was prepared after a look was prepared before it
@@ -144,6 +155,7 @@ looked_first log old mid new done only is rest same prepared =
       keeps = one_after old mid new (λ content. HoldsFrames content (log_of old.folder)) (look_keeps old mid (λ content. HoldsFrames content (log_of old.folder)) only same (rest_holds old is.sound rest)) keeps;
       folder = λ finished. prepared.folder finished ∙ ap (λ (g : Folder). Some (take (end_of (log_pages g)) (log_pages g))) same.folder;
       images = λ c leaves. subst (λ (l : List (List ℕ)). HoldsFrames (c log_file) l) frames_same (prepared.images c leaves);
+      there = prepared.there;
     }
 
 -- rest and what was found last over a look
@@ -159,7 +171,7 @@ pub started_log : (log : LogValue) (old mid new : State) → IsOpened log old.fo
 started_log log old mid new is prepared syncs =
     let pages : List (List ℕ) = log_pages old.folder in
     let folder : new.folder log_file ≡ Some (take (end_of pages) pages) = ap (λ (g : Folder). g log_file) syncs.folder ∙ prepared.folder refl in
-    settled_log log new (take (end_of pages) pages) (frames_of pages) (cut_whole pages) folder (λ c leaves. syncs.durable refl c leaves ∙ prepared.folder refl)
+    settled_log log new (take (end_of pages) pages) (frames_of pages) (cut_whole pages) folder (λ c leaves. syncs.durable refl c leaves (prepared.there refl c (syncs.no_more c leaves)) ∙ prepared.folder refl)
     (is.fills.number_is ∙ sym (length-take (end_of pages) pages ∙ omega (arith, end_within pages))) is.fills.begins_is is.fills.used_is is.fills.body_is
 
 -- its moments

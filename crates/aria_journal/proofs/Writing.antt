@@ -1,5 +1,6 @@
 -- What a write at the end of the log does, at each moment.
-use Rattle.std.proofs.Common.{◌≡◌, ◌⊎◌, inl, inr, ℕ, zero, suc, ◌+◌, ◌-◌, ◌≤◌, Bool, true, false, IsTrue, Option, Some, List, [], ◌∷◌, ◌++◌, length, take, replicate, refl, ◌∙◌, ap, arith}
+use Rattle.std.proofs.Common.{◌≡◌, ◌⊎◌, inl, inr, ℕ, zero, suc, ◌+◌, ◌-◌, ◌≤◌, Bool, true, false, IsTrue, Option, None, Some, rules, List, [], ◌∷◌, ◌++◌, length, take, replicate, refl, ◌∙◌, ap, arith}
+use Rattle.std.specs.Prelude.{IsSome}
 use Rattle.std.specs.Option.{option_map}
 use Rattle.std.proofs.lemmas.List.{append-nil}
 use Rattle.aria_page.specs.Page.{zero_page}
@@ -15,6 +16,11 @@ use Rattle.aria_journal.specs.Runs.{IsRun, IsPartOf, begins_next}
 use Rattle.aria_journal.specs.Log.{log_file, SameOthers, AtLog, LogMoments, IsImage, IsWriting, Fills, Wrote}
 use Rattle.aria_journal.proofs.LogPages.{torn_reads}
 use Rattle.aria_journal.proofs.Images.{part_length, part_longer, part_added, put_behind, run_added}
+
+-- a file with these pages is there
+pub is_there : (content : Option (List (List ℕ))) (pages : List (List ℕ)) → content ≡ Some pages → IsSome content
+is_there None pages is = absurd (cc)
+is_there (Some held) pages is = search rules
 
 -- since this moment there is no other
 abbrev pub OnlyNow : State → Type 0

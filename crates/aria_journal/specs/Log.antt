@@ -1,5 +1,5 @@
 -- The log as a value, and what its calls do to the folder.
-use Rattle.std.specs.Prelude.{◌≡◌, ◌⊎◌, ℕ, ◌+◌, ◌*◌, ◌≤◌, Bool, true, false, IsTrue, Option, None, Some, unwrap_or, List, [], ◌∷◌, ◌++◌, length, take, drop, All}
+use Rattle.std.specs.Prelude.{◌≡◌, ◌⊎◌, ℕ, ◌+◌, ◌*◌, ◌≤◌, Bool, true, false, IsTrue, Option, None, Some, IsSome, unwrap_or, List, [], ◌∷◌, ◌++◌, length, take, drop, All}
 use Rattle.aria_host.specs.declared.file_name.FileName.{FileName}
 use Rattle.aria_host.specs.declared.file_name.FileName.TheVariants.{Log}
 use Rattle.aria_host.specs.Folder.{Folder, same_file}
@@ -125,6 +125,7 @@ pub record Prepared (log : LogValue) (old new : State) (done : Bool) : Type 0 wh
   pub keeps : LogMoments old new (λ content. HoldsFrames content (log_of old.folder))
   pub folder : IsTrue done → new.folder log_file ≡ Some (take (end_of (log_pages old.folder)) (log_pages old.folder))
   pub images : (c : Folder) → new.may_leave c → HoldsFrames (c log_file) (log_of old.folder)
+  pub there : IsTrue done → (c : Folder) → new.may_leave c → IsSome (c log_file)
 
 -- the log's file is there and has so many pages
 abbrev pub HasPages : ℕ → Folder → Type 0
