@@ -6,5 +6,6 @@ pub mod Files
 mod Front
 mod Memory
 mod NameLists
+mod Named
 mod OnePass
 pub mod Moments

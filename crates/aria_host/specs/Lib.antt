@@ -1,6 +1,7 @@
 pub mod Count
 pub mod Folder
 pub mod FileText
+pub mod Form
 pub mod State
 pub mod Steps
 pub mod Effect

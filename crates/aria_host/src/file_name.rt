@@ -1,4 +1,8 @@
-ghost use Rattle.std.specs.Prelude.{◌≡◌, ◌+◌, ◌<◌, ◌≤◌, ◌^◌, IfOk, IfSome, ◌++◌, length};
+ghost use Rattle.std.specs.Prelude.{◌≡◌, ◌≢◌, ◌+◌, ◌<◌, ◌≤◌, ◌^◌, ℕ, IsTrue, Bool, None, IfOk, IfSome, MatchOption, ◌++◌, length, codes};
+ghost use Rattle.std.specs.Cmp.Lexicographic.{slice_cmp};
+ghost use Rattle.std.specs.Ordering.{nat_cmp};
+ghost use Rattle.aria_page.specs.Word.{is_word};
+ghost use Rattle.aria_host.specs.Form.{is_table, IsNamed, NamesNoTable, NamesNone};
 ghost use Rattle.arrayvec.specs.ArrayVec.{array_vec_len};
 ghost use Rattle.aria_host.specs.Folder.{IsFileName, is_form, is_log, same_file};
 ghost use Rattle.aria_host.specs.FileText.{digit, eight_digits, log_text, file_text};
@@ -6,6 +10,7 @@ ghost use Rattle.aria_host.specs.FileText.{digit, eight_digits, log_text, file_t
 use aria_page::{Bytes, Name};
 use arrayvec::ArrayVec;
 use std::alloc::{AllocError, Global};
+use std::cmp::Ordering;
 
 /// A file of the folder. No other file is ever touched.
 #[derive(Clone, Copy, Debug)]
@@ -86,42 +91,54 @@ fn joined(front: &[u8], back: &[u8]) -> ArrayVec<u8, TEXT_BYTES>
     text
 }
 
-// The number that these digits spell, if the eight digits of a number are these.
-fn log_number(digits: &[u8]) -> Option<u32>
-    ensures below { IfSome result (λ number. number < 2 ^ 24) }
-    ensures digits { IfSome result (λ number. eight_digits number ≡ digits.now) }
+// What a digit counts; a byte that is none counts at most 255.
+fn value(digit: u8) -> u32
+    ensures digit { 48 ≤ digit → 48 + result ≡ digit }
+    ensures most { result ≤ 255 }
 {
-    let mut number: u32 = 0;
-    for digit in digits {
-        number = number
-            .wrapping_mul(10)
-            .wrapping_add(u32::from(digit.wrapping_sub(b'0')));
+    u32::from(digit.wrapping_sub(b'0'))
+}
+
+// What eight digits count.
+fn number_of(digits: &[u8; 8]) -> u32
+    ensures { (number : ℕ) → number < 2 ^ 24 → eight_digits number ≡ digits.now → result ≡ number }
+{
+    let [a, b, c, d, e, f, g, h] = digits;
+    let high = value(*a) * 1000 + value(*b) * 100 + value(*c) * 10 + value(*d);
+    let low = value(*e) * 1000 + value(*f) * 100 + value(*g) * 10 + value(*h);
+    high * 10_000 + low
+}
+
+// The number of a log file that these digits spell.
+fn log_number(digits: &[u8]) -> Option<u32>
+    ensures { MatchOption result ((number : ℕ) → number < 2 ^ 24 → eight_digits number ≢ digits.now) (λ number. (number < 2 ^ 24) × (eight_digits number ≡ digits.now)) }
+{
+    let digits = digits.as_array::<8>()?;
+    let number = number_of(digits);
+    if number >= MAX_LOGS {
+        return None;
     }
-    if number < MAX_LOGS && eight_digits(number).as_slice() == digits {
+    if eight_digits(number) == *digits {
         Some(number)
     } else {
         None
     }
 }
 
-// The log file of that name, or the control file.
+// The log file of that name.
 fn read_log(text: &[u8]) -> Option<FileName>
-    ensures form { IfSome result IsFileName }
-    ensures text { IfSome result (λ file. file_text file ≡ text.now) }
+    ensures { MatchOption result ((number : ℕ) → number < 2 ^ 24 → log_text number ≢ text.now) (λ file. IsNamed text.now file) }
 {
-    if text == CONTROL {
-        return Some(FileName::Control);
-    }
     let digits = text.strip_prefix(LOG)?;
     Some(FileName::Log(log_number(digits)?))
 }
 
-// The table's file whose name has this end.
-fn read_table(front: &[u8], end: &[u8]) -> Option<FileName>
-    ensures form { IfSome result IsFileName }
-    ensures text { IfSome result (λ file. file_text file ≡ front.now ++ end.now) }
+// The table's file of that name whose text has this end.
+fn with_end(name: Name, end: &[u8]) -> Option<FileName>
+    requires { length end.now ≡ 4 }
+    ensures none { result ≡ None → (file : FileName) → IsTrue (is_table file) → file_text file ≢ name ++ end.now }
+    ensures some { IfSome result (λ file. IsNamed (name ++ end.now) file) }
 {
-    let name = Name::read(front)?;
     if end == KEYS {
         Some(FileName::Keys(name))
     } else if end == ROWS {
@@ -135,20 +152,28 @@ fn read_table(front: &[u8], end: &[u8]) -> Option<FileName>
     }
 }
 
+// The table's file of that name.
+#[tactic(auto, using(crate::proofs::Named::too_short, crate::proofs::Named::no_word, crate::proofs::Named::whole))]
+fn read_table(text: &[u8]) -> Option<FileName>
+    ensures { MatchOption result (NamesNoTable text.now) (λ file. IsNamed text.now file) }
+{
+    let (front, end) = text.split_last_chunk::<4>()?;
+    with_end(Name::read(front)?, end)
+}
+
 impl FileName {
     /// The file of that name in the folder, if it is of one of the forms.
+    #[tactic(auto, using(crate::proofs::Named::no_file))]
     pub(crate) fn read(text: &[u8]) -> Option<FileName>
-        ensures form { IfSome result IsFileName }
-        ensures text { IfSome result (λ file. file_text file ≡ text.now) }
+        ensures { MatchOption result (NamesNone text.now) (λ file. IsNamed text.now file) }
     {
-        if let Some(file) = read_log(text) {
-            return Some(file);
+        if text == CONTROL {
+            return Some(FileName::Control);
         }
-        if text.len() < KEYS.len() {
-            return None;
+        match read_log(text) {
+            Some(file) => Some(file),
+            None => read_table(text),
         }
-        let (front, end) = text.split_at(text.len() - KEYS.len());
-        read_table(front, end)
     }
 
     /// The file's name in the folder, in place.
@@ -170,6 +195,15 @@ impl FileName {
         ensures { IfOk result (λ text. text ≡ file_text self.now) }
     {
         Bytes::from_slice(alloc, self.text_in_place().as_slice())
+    }
+
+    /// Compares the names of two files in the folder, byte by byte.
+    pub fn compare_texts(&self, other: &FileName) -> Ordering
+        ensures { result ≡ slice_cmp nat_cmp (file_text self.now) (file_text other.now) }
+    {
+        self.text_in_place()
+            .as_slice()
+            .cmp(other.text_in_place().as_slice())
     }
 
     /// Whether the number of a log file is below 2^24.
