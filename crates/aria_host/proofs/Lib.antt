@@ -8,4 +8,5 @@ mod Memory
 mod NameLists
 mod Named
 mod OnePass
+mod Table
 pub mod Moments

@@ -8,6 +8,9 @@ pub mod Effect
 pub mod Seen
 pub mod Calls
 pub mod Listing
+pub mod Extent
+pub mod System
+pub mod OpenTable
 pub mod Crash
 pub mod Source
 pub mod MemSource

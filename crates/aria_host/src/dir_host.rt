@@ -1,14 +1,19 @@
-ghost use Rattle.std.specs.Prelude.{◌≡◌, ◌⊎◌, ◌+◌, ◌-◌, ◌^◌, ◌≤◌, min, false, is_ok, if◌then◌else◌, IfOk, IfErr, IfSome, IsErrOf, All, alloc_error};
+ghost use Rattle.std.specs.Prelude.{◌≡◌, ◌⊎◌, ◌+◌, ◌-◌, ◌^◌, ◌≤◌, ◌*◌, ◌/◌, ◌%◌, ◌<◌, ◌==◌, ◌∷◌, not, min, false, ℕ, List, Option, Some, IsTrue, is_ok, if◌then◌else◌, IfOk, IfErr, IfSome, IsErrOf, MatchResult, MatchOption, All, alloc_error};
 ghost use Rattle.aria_host.specs.Untold.{untold, not_told};
 ghost use Rattle.aria_host.specs.Count.{Rose};
+ghost use Rattle.aria_host.specs.Calls.{HasDiskCause, HasDiskOrMemoryCause, HasTellCause};
 ghost use Rattle.aria_host.specs.Folder.{IsFileName};
+ghost use Rattle.aria_host.specs.Extent.{IsExtent, IsTooLong, IsFound};
+ghost use Rattle.aria_host.specs.System.{Call, IsRefused, Does, DoesWith};
+ghost use Rattle.aria_host.specs.System.Call.{Looked, Made, Removed, Listed, SyncedFolder, Read, Wrote, Cut, SyncedData, SyncedWhole, Told};
 
 use crate::open_files::{OpenFiles, PAGE_BYTES};
+use crate::os::Os;
+use crate::system::System;
 use crate::{Extent, Fault, FileName, Host, Stream};
 use aria_page::{List, Page};
 use std::alloc::{AllocError, Global};
 use std::io;
-use std::io::Write;
 
 /// The most pages that a file may have.
 const MAX_PAGES: u64 = 1 << 31;
@@ -16,24 +21,15 @@ const MAX_PAGES: u64 = 1 << 31;
 /// The current folder, and the standard streams of output. It tells no contents: that the system keeps what `Host`
 /// promises is trusted. Links, folders and devices under a file's name are faults.
 #[derive(Drop)]
-pub struct DirHost {
-    rt: HostRuntime,
-    files: OpenFiles,
+pub struct DirHost<S: System + Drop = Os> {
+    files: OpenFiles<S>,
     disk_faults: u64,
     tell_faults: u64,
 }
 
-// Writes all the bytes at once, going on after a short write.
-fn write_whole(rt: &HostRuntime, stream: Stream, bytes: &[u8]) -> io::Result<()> {
-    match stream {
-        Stream::Out => Write::write_all(&mut rt.stdout(), bytes),
-        Stream::Err => Write::write_all(&mut rt.stderr(), bytes),
-    }
-}
-
 // What a file of that many bytes extends over, if it isn't too long.
 fn extent_of(bytes: u64) -> Option<Extent>
-    ensures { IfSome result (λ extent. extent.pages ≤ 2 ^ 31) }
+    ensures { MatchOption result (IsTooLong bytes) (IsExtent bytes) }
 {
     let pages = bytes / PAGE_BYTES;
     if pages > MAX_PAGES {
@@ -51,31 +47,49 @@ impl DirHost {
         ensures tell { result.tell_faults ≡ 0 }
     {
         DirHost {
-            rt: *rt,
-            files: OpenFiles::new(rt),
+            files: OpenFiles::new(Os::new(rt)),
             disk_faults: 0,
             tell_faults: 0,
         }
     }
+}
 
+impl<S: System + Drop> DirHost<S> {
     // Counts a fault of the disk.
     fn disk_fault(&mut self) -> Fault
         ensures is { result ≡ Fault.Disk }
         ensures counted { Rose self.old.disk_faults self.new.disk_faults }
         ensures later { self.old.disk_faults ≤ self.new.disk_faults }
         ensures tell { self.new.tell_faults ≡ self.old.tell_faults }
+        ensures files { self.new.files ≡ self.old.files }
     {
         self.disk_faults = self.disk_faults.saturating_add(1);
         Fault::Disk
     }
+
+    // What a call answers; a refusal of the system is a fault of the disk.
+    fn answer(&mut self, answer: io::Result<()>) -> Result<(), Fault>
+        ensures same { is_ok result ≡ is_ok answer }
+        ensures cause { HasDiskCause (untold self.old.disk_faults self.old.tell_faults) (untold self.new.disk_faults self.new.tell_faults) result }
+        ensures files { self.new.files ≡ self.old.files }
+    {
+        match answer {
+            Ok(()) => Ok(()),
+            Err(_) => Err(self.disk_fault()),
+        }
+    }
 }
 
-impl Host for DirHost {
+impl<S: System + Drop> Host for DirHost<S> {
     ghost tells = { false };
 
     ghost state = { λ host. untold host.disk_faults host.tell_faults };
 
-    fn names(&mut self, alloc: Global) -> Result<List<FileName>, Fault> {
+    fn names(&mut self, alloc: Global) -> Result<List<FileName>, Fault>
+        ensures forms { IfOk result (λ names. All IsFileName names) }
+        ensures cause { HasDiskOrMemoryCause (untold self.old.disk_faults self.old.tell_faults) (untold self.new.disk_faults self.new.tell_faults) result }
+        ensures calls { IsTrue S.tells → IfOk result (λ names. (texts : List (List ℕ)) × (S.calls self.new.files.system ≡ SyncedFolder ∷ Listed texts ∷ S.calls self.old.files.system)) }
+    {
         match self.files.names(alloc) {
             Ok(names) => Ok(names),
             Err(error) => {
@@ -88,7 +102,13 @@ impl Host for DirHost {
         }
     }
 
-    fn look(&mut self, file: &FileName) -> Result<Option<Extent>, Fault> {
+    fn look(&mut self, file: &FileName) -> Result<Option<Extent>, Fault>
+        ensures pages { IfOk result (λ found. IfSome found (λ extent. extent.pages ≤ 2 ^ 31)) }
+        ensures cause { HasDiskCause (untold self.old.disk_faults self.old.tell_faults) (untold self.new.disk_faults self.new.tell_faults) result }
+        ensures calls { IsTrue S.tells → MatchResult result
+            (λ found. (bytes : Option ℕ) × (S.calls self.new.files.system ≡ Looked file.now bytes ∷ S.calls self.old.files.system) × IsFound bytes found)
+            (λ _. IsRefused (S.calls self.new.files.system) ⊎ ((bytes : ℕ) × (S.calls self.new.files.system ≡ Looked file.now (Some bytes) ∷ S.calls self.old.files.system) × IsTooLong bytes)) }
+    {
         match self.files.length(file) {
             Ok(Some(bytes)) => match extent_of(bytes) {
                 Some(extent) => Ok(Some(extent)),
@@ -99,50 +119,59 @@ impl Host for DirHost {
         }
     }
 
-    fn read_page(&mut self, file: &FileName, page: u32, into: &mut Page) -> Result<(), Fault> {
-        match self.files.read_page(file, page, into) {
-            Ok(()) => Ok(()),
-            Err(_) => Err(self.disk_fault()),
-        }
+    fn read_page(&mut self, file: &FileName, page: u32, into: &mut Page) -> Result<(), Fault>
+        ensures cause { HasDiskCause (untold self.old.disk_faults self.old.tell_faults) (untold self.new.disk_faults self.new.tell_faults) result }
+        ensures calls { IsTrue S.tells → DoesWith file.now result (λ _. Read file.now (8192 * page) into.new) (S.calls self.old.files.system) (S.calls self.new.files.system) }
+    {
+        let answer = self.files.read_page(file, page, into);
+        self.answer(answer)
     }
 
-    fn write_page(&mut self, file: &FileName, page: u32, from: &Page) -> Result<(), Fault> {
-        match self.files.write_page(file, page, from) {
-            Ok(()) => Ok(()),
-            Err(_) => Err(self.disk_fault()),
-        }
+    fn write_page(&mut self, file: &FileName, page: u32, from: &Page) -> Result<(), Fault>
+        ensures cause { HasDiskCause (untold self.old.disk_faults self.old.tell_faults) (untold self.new.disk_faults self.new.tell_faults) result }
+        ensures calls { IsTrue S.tells → DoesWith file.now result (λ _. Wrote file.now (8192 * page) from.now) (S.calls self.old.files.system) (S.calls self.new.files.system) }
+    {
+        let answer = self.files.write_page(file, page, from);
+        self.answer(answer)
     }
 
-    fn cut(&mut self, file: &FileName, pages: u32) -> Result<(), Fault> {
-        match self.files.cut(file, pages) {
-            Ok(()) => Ok(()),
-            Err(_) => Err(self.disk_fault()),
-        }
+    fn cut(&mut self, file: &FileName, pages: u32) -> Result<(), Fault>
+        ensures cause { HasDiskCause (untold self.old.disk_faults self.old.tell_faults) (untold self.new.disk_faults self.new.tell_faults) result }
+        ensures calls { IsTrue S.tells → DoesWith file.now result (λ _. Cut file.now (8192 * pages)) (S.calls self.old.files.system) (S.calls self.new.files.system) }
+    {
+        let answer = self.files.cut(file, pages);
+        self.answer(answer)
     }
 
-    fn create(&mut self, file: &FileName) -> Result<(), Fault> {
-        match self.files.create(file) {
-            Ok(()) => Ok(()),
-            Err(_) => Err(self.disk_fault()),
-        }
+    fn create(&mut self, file: &FileName) -> Result<(), Fault>
+        ensures cause { HasDiskCause (untold self.old.disk_faults self.old.tell_faults) (untold self.new.disk_faults self.new.tell_faults) result }
+        ensures calls { IsTrue S.tells → MatchResult result (λ _. S.calls self.new.files.system ≡ SyncedFolder ∷ SyncedWhole file.now ∷ Made file.now ∷ S.calls self.old.files.system) (λ _. IsRefused (S.calls self.new.files.system)) }
+    {
+        let answer = self.files.create(file);
+        self.answer(answer)
     }
 
-    fn remove(&mut self, file: &FileName) -> Result<(), Fault> {
-        match self.files.remove(file) {
-            Ok(()) => Ok(()),
-            Err(_) => Err(self.disk_fault()),
-        }
+    fn remove(&mut self, file: &FileName) -> Result<(), Fault>
+        ensures cause { HasDiskCause (untold self.old.disk_faults self.old.tell_faults) (untold self.new.disk_faults self.new.tell_faults) result }
+        ensures calls { IsTrue S.tells → MatchResult result (λ _. S.calls self.new.files.system ≡ SyncedFolder ∷ Removed file.now ∷ S.calls self.old.files.system) (λ _. IsRefused (S.calls self.new.files.system)) }
+    {
+        let answer = self.files.remove(file);
+        self.answer(answer)
     }
 
-    fn sync(&mut self, file: &FileName) -> Result<(), Fault> {
-        match self.files.sync(file) {
-            Ok(()) => Ok(()),
-            Err(_) => Err(self.disk_fault()),
-        }
+    fn sync(&mut self, file: &FileName) -> Result<(), Fault>
+        ensures cause { HasDiskCause (untold self.old.disk_faults self.old.tell_faults) (untold self.new.disk_faults self.new.tell_faults) result }
+        ensures calls { IsTrue S.tells → DoesWith file.now result (λ _. SyncedData file.now) (S.calls self.old.files.system) (S.calls self.new.files.system) }
+    {
+        let answer = self.files.sync(file);
+        self.answer(answer)
     }
 
-    fn tell(&mut self, stream: Stream, bytes: &[u8]) -> Result<(), Fault> {
-        if write_whole(&self.rt, stream, bytes).is_err() {
+    fn tell(&mut self, stream: Stream, bytes: &[u8]) -> Result<(), Fault>
+        ensures cause { HasTellCause (untold self.old.disk_faults self.old.tell_faults) (untold self.new.disk_faults self.new.tell_faults) result }
+        ensures calls { IsTrue S.tells → Does result (λ _. Told stream bytes.now) (S.calls self.old.files.system) (S.calls self.new.files.system) }
+    {
+        if self.files.tell(stream, bytes).is_err() {
             self.tell_faults = self.tell_faults.saturating_add(1);
             return Err(Fault::Tell);
         }

@@ -21,9 +21,12 @@ mod listing;
 mod mem_host;
 mod mem_source;
 mod open_files;
+mod open_table;
+mod os;
 mod seen;
 mod source;
 mod std_source;
+mod system;
 mod zero_page;
 
 pub use dir_host::DirHost;

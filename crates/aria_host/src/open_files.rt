@@ -1,181 +1,95 @@
-ghost use Rattle.std.specs.Prelude.{◌<◌, IfSome, IfOk, All};
+ghost use Rattle.std.specs.Prelude.{◌≡◌, ◌⊎◌, ◌*◌, ◌/◌, ◌<◌, ◌^◌, ℕ, List, length, IsTrue, IfOk, IfSome, MatchOption, MatchResult, All, ◌∷◌};
 ghost use Rattle.aria_host.specs.Folder.{IsFileName};
+ghost use Rattle.aria_host.specs.OpenTable.{IsPlace, IsClosed};
+ghost use Rattle.aria_host.specs.System.{Call, IsRefused, Does, DoesWith, Opens};
+ghost use Rattle.aria_host.specs.System.Call.{Looked, Made, Removed, Listed, SyncedFolder, Read, Wrote, Cut, SyncedData, SyncedWhole, Told};
 
-use crate::FileName;
-use crate::file_name::TEXT_BYTES;
-use aria_page::{List, Page};
-use arrayvec::ArrayVec;
-use std::alloc::Global;
-use std::fs::{DirEntry, File, OpenOptions};
-use std::os::unix::fs::{FileExt, MetadataExt, OpenOptionsExt};
-use std::{array, fs, io, str};
-
-/// The most files that are kept open.
-const MAX_OPEN: usize = 32;
+use crate::open_table::OpenTable;
+use crate::system::System;
+use crate::{FileName, Stream};
+use aria_page::{Bytes, List, Page};
+use std::alloc::{AllocError, Global};
+use std::io;
 
 /// The size of a page, in bytes.
 pub(crate) const PAGE_BYTES: u64 = 8192;
 
-/// The current folder.
-const FOLDER: &str = ".";
-
-#[derive(Drop)]
-struct Opened {
-    name: FileName,
-    file: File,
-}
-
-/// The files of the current folder. Up to `MAX_OPEN` of them stay open between calls.
+/// The files of a folder, by the system's calls. Some of them stay open between calls.
 ///
 /// Only the list of the folder's names takes memory: all the rest stands in place.
 #[derive(Drop)]
-pub(crate) struct OpenFiles {
-    rt: HostRuntime,
-    opened: [Option<Opened>; MAX_OPEN],
-    /// The place whose file is closed next, where no place is free.
-    next: usize,
+pub(crate) struct OpenFiles<S: System + Drop> {
+    system: S,
+    table: OpenTable,
 }
 
-// The name as a path.
-fn path_of(text: &ArrayVec<u8, TEXT_BYTES>) -> io::Result<&str> {
-    match str::from_utf8(text.as_slice()) {
-        Ok(path) => Ok(path),
-        Err(_) => Err(io::ErrorKind::InvalidInput.into()),
-    }
-}
-
-// What stands under that name, without following a link; an error where it is no regular file.
-fn regular(rt: &HostRuntime, path: &str) -> io::Result<fs::Metadata> {
-    let found = fs::symlink_metadata(rt, path)?;
-    if found.is_file() {
-        Ok(found)
-    } else {
-        Err(io::ErrorKind::Unsupported.into())
-    }
-}
-
-// Opens a regular file. What was put in its place while it was opened isn't taken.
-fn open(rt: &HostRuntime, path: &str) -> io::Result<File> {
-    let named = regular(rt, path)?;
-    let file = OpenOptions::new().read(true).write(true).open(rt, path)?;
-    let found = file.metadata()?;
-    if found.dev() == named.dev() && found.ino() == named.ino() {
-        Ok(file)
-    } else {
-        Err(io::ErrorKind::Unsupported.into())
-    }
-}
-
-// The file's name, if it is of the forms of `FileName`; a name that is no text isn't.
-fn form_of(entry: io::Result<DirEntry>) -> io::Result<Option<FileName>>
-    ensures { IfOk result (λ name. IfSome name IsFileName) }
+// Where a page begins in its file.
+fn offset_of(page: u32) -> u64
+    ensures { result ≡ 8192 * page }
 {
-    match entry {
-        Ok(entry) => Ok(FileName::read(entry.file_name().as_bytes())),
-        Err(error) if error.kind() == io::ErrorKind::InvalidFilename => Ok(None),
-        Err(error) => Err(error),
-    }
-}
-
-// Brings the folder's names to the disk.
-fn sync_folder(rt: &HostRuntime) -> io::Result<()> {
-    File::open(rt, FOLDER)?.sync_all()
-}
-
-fn offset_of(page: u32) -> u64 {
     u64::from(page) * PAGE_BYTES
 }
 
-impl OpenFiles {
-    pub(crate) fn new(rt: &HostRuntime) -> OpenFiles {
+// Puts the bytes in the place of all of a page.
+#[tactic(auto, unfolding(aria_page::specs::Page::with_bytes))]
+fn fill(page: &mut Page, bytes: &[u8])
+    requires { length bytes.now ≡ 8192 }
+    ensures { page.new ≡ bytes.now }
+{
+    page.put(0, bytes);
+}
+
+// The files of the forms of `FileName` among these.
+fn forms(alloc: Global, texts: &[Bytes]) -> Result<List<FileName>, AllocError>
+    ensures { IfOk result (λ names. All IsFileName names) }
+{
+    let mut names = List::new(alloc);
+    for text in texts {
+        if let Some(name) = FileName::read(text.as_slice()) {
+            names.push(name)?;
+        }
+    }
+    Ok(names)
+}
+
+impl<S: System + Drop> OpenFiles<S> {
+    pub(crate) fn new(system: S) -> OpenFiles<S>
+        ensures { result.system ≡ system }
+    {
         OpenFiles {
-            rt: *rt,
-            opened: array::from_fn(|_| None),
-            next: 0,
+            system,
+            table: OpenTable::new(),
         }
     }
 
-    // The place of an open file.
-    fn place(&self, name: &FileName) -> Option<usize>
-        ensures { IfSome result (λ place. place < 32) }
+    // Opens the file, unless it is open, and says at which place it is kept.
+    fn place(&mut self, name: &FileName) -> io::Result<usize>
+        ensures place { IfOk result (λ place. IsPlace name.now place self.new.table.handles) }
+        ensures calls { IsTrue S.tells → MatchResult result (λ _. Opens name.now (S.calls self.old.system) (S.calls self.new.system)) (λ _. IsRefused (S.calls self.new.system)) }
     {
-        self.opened.iter().position(
-            |place| matches!(place, Some(opened) if opened.name.is_same(name)),
-        )
-    }
-
-    // A place with no file, or else the next place in turn.
-    fn free_place(&mut self) -> usize
-        ensures { result < 32 }
-    {
-        if let Some(place) = self.opened.iter().position(|place| place.is_none()) {
-            return place;
+        if let Some(place) = self.table.place(name) {
+            return Ok(place);
         }
-        let place = self.next % MAX_OPEN;
-        self.next = place + 1;
-        place
+        let handle = self.system.open(name)?;
+        Ok(self.table.keep(handle))
     }
 
-    // Keeps a file open, and says at which place. Another is closed where too many are open.
-    fn keep(&mut self, name: &FileName, file: File) -> usize
-        ensures { result < 32 }
+    /// The names of the files of the forms of `FileName`, which are on the disk then.
+    pub(crate) fn names(&mut self, alloc: Global) -> io::Result<List<FileName>>
+        ensures forms { IfOk result (λ names. All IsFileName names) }
+        ensures calls { IsTrue S.tells → IfOk result (λ names. (texts : List (List ℕ)) × (S.calls self.new.system ≡ SyncedFolder ∷ Listed texts ∷ S.calls self.old.system)) }
     {
-        let place = self.free_place();
-        self.opened[place] = Some(Opened { name: *name, file });
-        place
-    }
-
-    // Closes the file, if it is open.
-    fn close(&mut self, name: &FileName) {
-        if let Some(place) = self.place(name) {
-            self.opened[place] = None;
-        }
-    }
-
-    // Opens the file, and says at which place it is kept.
-    fn admit(&mut self, name: &FileName) -> io::Result<usize>
-        ensures { IfOk result (λ place. place < 32) }
-    {
-        let text = name.text_in_place();
-        let file = open(&self.rt, path_of(&text)?)?;
-        Ok(self.keep(name, file))
-    }
-
-    // The file, which is opened where it isn't open.
-    fn file(&mut self, name: &FileName) -> io::Result<&File> {
-        let place = match self.place(name) {
-            Some(place) => place,
-            None => self.admit(name)?,
-        };
-        let opened = &self.opened;
-        match &opened[place] {
-            Some(found) => Ok(&found.file),
-            None => Err(io::ErrorKind::NotFound.into()),
-        }
-    }
-
-    /// The names of the files of the forms of `FileName`, which it brings to the disk.
-    pub(crate) fn names(&self, alloc: Global) -> io::Result<List<FileName>>
-        ensures { IfOk result (λ names. All IsFileName names) }
-    {
-        let mut names = List::new(alloc);
-        for entry in fs::read_dir(&self.rt, FOLDER)? {
-            if let Some(name) = form_of(entry)? {
-                names.push(name)?;
-            }
-        }
-        sync_folder(&self.rt)?;
+        let texts = self.system.list(alloc)?;
+        let names = forms(alloc, texts.as_slice())?;
+        self.system.sync_folder()?;
         Ok(names)
     }
 
     /// The length of the file in bytes, or `None` where it isn't there.
-    pub(crate) fn length(&self, name: &FileName) -> io::Result<Option<u64>> {
-        let text = name.text_in_place();
-        match regular(&self.rt, path_of(&text)?) {
-            Ok(found) => Ok(Some(found.len())),
-            Err(error) if error.kind() == io::ErrorKind::NotFound => Ok(None),
-            Err(error) => Err(error),
-        }
+    pub(crate) fn length(&mut self, name: &FileName) -> io::Result<Option<u64>>
+        ensures { IsTrue S.tells → Does result (λ found. Looked name.now found) (S.calls self.old.system) (S.calls self.new.system) }
+    {
+        self.system.look(name)
     }
 
     pub(crate) fn read_page(
@@ -183,47 +97,66 @@ impl OpenFiles {
         name: &FileName,
         page: u32,
         into: &mut Page,
-    ) -> io::Result<()> {
+    ) -> io::Result<()>
+        ensures { IsTrue S.tells → DoesWith name.now result (λ _. Read name.now (8192 * page) into.new) (S.calls self.old.system) (S.calls self.new.system) }
+    {
         let mut bytes = [0u8; 8192];
-        self.file(name)?.read_exact_at(&mut bytes, offset_of(page))?;
-        into.put(0, &bytes);
+        let place = self.place(name)?;
+        self.system
+            .read_at(self.table.at(place, name), offset_of(page), &mut bytes)?;
+        fill(into, &bytes);
         Ok(())
     }
 
-    pub(crate) fn write_page(&mut self, name: &FileName, page: u32, from: &Page) -> io::Result<()> {
-        self.file(name)?.write_all_at(from.bytes(), offset_of(page))
+    pub(crate) fn write_page(&mut self, name: &FileName, page: u32, from: &Page) -> io::Result<()>
+        ensures { IsTrue S.tells → DoesWith name.now result (λ _. Wrote name.now (8192 * page) from.now) (S.calls self.old.system) (S.calls self.new.system) }
+    {
+        let place = self.place(name)?;
+        self.system
+            .write_at(self.table.at(place, name), offset_of(page), from.bytes())
     }
 
-    pub(crate) fn cut(&mut self, name: &FileName, pages: u32) -> io::Result<()> {
-        self.file(name)?.set_len(offset_of(pages))
+    /// Cuts the file to so many pages.
+    pub(crate) fn cut(&mut self, name: &FileName, pages: u32) -> io::Result<()>
+        ensures { IsTrue S.tells → DoesWith name.now result (λ _. Cut name.now (8192 * pages)) (S.calls self.old.system) (S.calls self.new.system) }
+    {
+        let place = self.place(name)?;
+        self.system
+            .cut(self.table.at(place, name), offset_of(pages))
     }
 
     /// Makes an empty file, and brings its name to the disk.
-    pub(crate) fn create(&mut self, name: &FileName) -> io::Result<()> {
-        let text = name.text_in_place();
-        let file = OpenOptions::new()
-            .read(true)
-            .write(true)
-            .create_new(true)
-            .mode(0o644)
-            .open(&self.rt, path_of(&text)?)?;
-        file.sync_all()?;
-        self.close(name);
-        self.keep(name, file);
-        sync_folder(&self.rt)
+    pub(crate) fn create(&mut self, name: &FileName) -> io::Result<()>
+        ensures { IsTrue S.tells → MatchResult result (λ _. S.calls self.new.system ≡ SyncedFolder ∷ SyncedWhole name.now ∷ Made name.now ∷ S.calls self.old.system) (λ _. IsRefused (S.calls self.new.system)) }
+    {
+        let handle = self.system.make(name)?;
+        self.system.sync_whole(&handle)?;
+        self.table.close(name);
+        self.table.keep(handle);
+        self.system.sync_folder()
     }
 
     /// Removes the file, and brings that to the disk.
-    pub(crate) fn remove(&mut self, name: &FileName) -> io::Result<()> {
-        let text = name.text_in_place();
-        let path = path_of(&text)?;
-        regular(&self.rt, path)?;
-        self.close(name);
-        fs::remove_file(&self.rt, path)?;
-        sync_folder(&self.rt)
+    pub(crate) fn remove(&mut self, name: &FileName) -> io::Result<()>
+        ensures calls { IsTrue S.tells → MatchResult result (λ _. S.calls self.new.system ≡ SyncedFolder ∷ Removed name.now ∷ S.calls self.old.system) (λ _. IsRefused (S.calls self.new.system)) }
+        ensures closed { IsClosed name.now self.new.table.handles }
+    {
+        self.table.close(name);
+        self.system.remove(name)?;
+        self.system.sync_folder()
     }
 
-    pub(crate) fn sync(&mut self, name: &FileName) -> io::Result<()> {
-        self.file(name)?.sync_data()
+    /// Brings the bytes of the file to the disk.
+    pub(crate) fn sync(&mut self, name: &FileName) -> io::Result<()>
+        ensures { IsTrue S.tells → DoesWith name.now result (λ _. SyncedData name.now) (S.calls self.old.system) (S.calls self.new.system) }
+    {
+        let place = self.place(name)?;
+        self.system.sync_data(self.table.at(place, name))
+    }
+
+    pub(crate) fn tell(&mut self, stream: Stream, bytes: &[u8]) -> io::Result<()>
+        ensures { IsTrue S.tells → Does result (λ _. Told stream bytes.now) (S.calls self.old.system) (S.calls self.new.system) }
+    {
+        self.system.tell(stream, bytes)
     }
 }

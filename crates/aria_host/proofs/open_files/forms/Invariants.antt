@@ -1,0 +1,6 @@
+use Rattle.std.proofs.Common.{All}
+use Rattle.aria_host.specs.Folder.{IsFileName}
+use Rattle.aria_host.proofs.open_files.forms.Given as goal
+
+abbrev pub invariant-loop-text : goal.invariant-loop-text
+invariant-loop-text l = All IsFileName l.names
