@@ -2,6 +2,7 @@ ghost use Rattle.std.specs.Prelude.{◌≡◌, ◌<◌, length};
 ghost use Rattle.aria_page.specs.Page.{page_body};
 ghost use Rattle.aria_bitmap.specs.Code.{entry, all_used, room, head_code, tail_code, code};
 
+use crate::group::CODES;
 use aria_page::{BODY_BYTES, Page, u16_of, u32_of};
 
 /// The kind of a free page: the first byte of its body.
@@ -37,7 +38,7 @@ const MAX_ENTRIES: u8 = 255;
 // The directory entry with this number, from 0: zero where it is unused.
 #[tactic(auto, unfolding(crate::specs::Code::entry))]
 fn entry(body: &[u8], nth: u8) -> u32
-    requires { length body.now ≡ 8181 }
+    requires { length body.now ≡ BODY_BYTES }
     ensures { result ≡ entry body.now nth }
 {
     u32_of(&body[BODY_BYTES - ENTRY_BYTES * (nth as usize + 1)..])
@@ -45,7 +46,7 @@ fn entry(body: &[u8], nth: u8) -> u32
 
 // Whether the first entries of the directory, as many as are told, are all used.
 fn all_used(body: &[u8], entries: u8) -> bool
-    requires { length body.now ≡ 8181 }
+    requires { length body.now ≡ BODY_BYTES }
     ensures { result ≡ all_used body.now entries }
 {
     for nth in 0..entries {
@@ -59,7 +60,7 @@ fn all_used(body: &[u8], entries: u8) -> bool
 // The room of a head or tail page.
 #[tactic(auto, unfolding(crate::specs::Code::room))]
 fn room(body: &[u8]) -> usize
-    requires { length body.now ≡ 8181 }
+    requires { length body.now ≡ BODY_BYTES }
     ensures { result ≡ room body.now }
 {
     let entries = body[1];
@@ -104,7 +105,7 @@ fn tail_code(room: usize) -> u8
 #[tactic(auto, unfolding(crate::specs::Code::code))]
 pub fn code_of(page: &Page) -> u8
     ensures value { result ≡ code (page_body page.now) }
-    ensures fits { result < 8 }
+    ensures fits { result < CODES }
 {
     let body = page.body();
     match body[0] {

@@ -17,8 +17,9 @@ mod group;
 mod search;
 mod sought;
 
-pub use bitmap::{PATTERNS, get, set, set_edit};
+pub use bitmap::{get, set, set_edit};
 pub use code::code_of;
+pub use group::PATTERNS;
 pub use search::{find_empty_run, find_room};
 
 #[cfg(test)]

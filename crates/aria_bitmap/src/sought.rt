@@ -1,4 +1,5 @@
 ghost use Rattle.std.specs.Prelude.{◌≡◌, ℕ, ◌<◌, ◌^◌, false, slice_index_or};
+ghost use Rattle.aria_bitmap.specs.declared.group.TheConstants.{CODES, GROUP_PATTERNS};
 ghost use Rattle.aria_bitmap.specs.Promise.{promises};
 ghost use Rattle.aria_bitmap.specs.Sought.{OfPairs, any_sought};
 
@@ -49,7 +50,7 @@ impl Sought {
     /// The codes that promise such a part.
     #[tactic(auto, unfolding(crate::specs::Promise::promises))]
     pub fn room(tail: bool, bytes: u16) -> Sought
-        ensures { (code : ℕ) → code < 8 → slice_index_or result code false ≡ promises tail bytes code }
+        ensures { (code : ℕ) → code < CODES → slice_index_or result code false ≡ promises tail bytes code }
     {
         if tail {
             let large = bytes <= ROOM_OF_5;
@@ -65,7 +66,7 @@ impl Sought {
 
     /// Whether this code is sought.
     pub fn has(&self, code: u8) -> bool
-        requires { code < 8 }
+        requires { code < CODES }
         ensures { result ≡ slice_index_or self.now code false }
     {
         self.codes[code as usize]
@@ -74,7 +75,7 @@ impl Sought {
     /// Whether one of the eight patterns of a group is sought.
     pub fn is_in(&self, group: u32) -> bool
         requires { group < 2 ^ 24 }
-        ensures { result ≡ any_sought self.now 8 group }
+        ensures { result ≡ any_sought self.now GROUP_PATTERNS group }
     {
         self.pairs[(group % 64) as usize]
             | self.pairs[(group / 64 % 64) as usize]

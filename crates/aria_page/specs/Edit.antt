@@ -10,6 +10,12 @@ IsWithin (Set at bytes) = at + length bytes ≤ 8181
 IsWithin (Shift at len to) = (at + len ≤ 8181) × (to + len ≤ 8181)
 IsWithin (Whole body) = length body ≡ 8181
 
+-- how many bytes the edit brings
+abbrev pub edit_bytes : Edit → ℕ
+edit_bytes (Set at bytes) = length bytes
+edit_bytes (Shift at len to) = 0
+edit_bytes (Whole body) = length body
+
 -- the body after the edit
 unfoldable pub edited : Edit → List ℕ → List ℕ
 edited (Set at bytes) body = with_bytes at bytes body
