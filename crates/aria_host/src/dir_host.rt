@@ -1,4 +1,4 @@
-ghost use Rattle.std.specs.Prelude.{◌≡◌, ◌⊎◌, ◌+◌, ◌-◌, ◌^◌, ◌≤◌, ◌*◌, ◌/◌, ◌%◌, ◌<◌, ◌==◌, ◌∷◌, not, min, false, ℕ, List, Option, Some, IsTrue, is_ok, if◌then◌else◌, IfOk, IfErr, IfSome, IsErrOf, MatchResult, MatchOption, All, alloc_error};
+ghost use Rattle.std.specs.Prelude.{◌≡◌, ◌⊎◌, ◌+◌, ◌-◌, ◌^◌, ◌≤◌, ◌*◌, ◌/◌, ◌%◌, ◌<◌, ◌==◌, ◌∷◌, not, min, ⊤, false, ℕ, List, Option, Some, IsTrue, is_ok, if◌then◌else◌, IfOk, IfErr, IfSome, IsErrOf, MatchResult, MatchOption, All, alloc_error};
 ghost use Rattle.aria_host.specs.Untold.{untold, not_told};
 ghost use Rattle.aria_host.specs.Count.{Rose};
 ghost use Rattle.aria_host.specs.Calls.{HasDiskCause, HasDiskOrMemoryCause, HasTellCause};
@@ -84,6 +84,8 @@ impl<S: System + Drop> Host for DirHost<S> {
     ghost tells = { false };
 
     ghost state = { λ host. untold host.disk_faults host.tell_faults };
+
+    ghost may_find = { λ host file found. ⊤ };
 
     fn names(&mut self, alloc: Global) -> Result<List<FileName>, Fault>
         ensures forms { IfOk result (λ names. All IsFileName names) }

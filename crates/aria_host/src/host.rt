@@ -1,4 +1,4 @@
-ghost use Rattle.std.specs.Prelude.{◌≡◌, ◌≤◌, ◌<◌, ◌^◌, ℕ, List, Bool, IsTrue, IsSome, IsNone, is_ok, IfOk, IfSome, OnOk, All};
+ghost use Rattle.std.specs.Prelude.{◌≡◌, ◌≤◌, ◌<◌, ◌^◌, ℕ, List, Bool, Option, IsTrue, IsSome, IsNone, is_ok, IfOk, IfSome, OnOk, All};
 ghost use Rattle.aria_host.specs.Folder.{Folder, IsFileName, page_count};
 ghost use Rattle.aria_host.specs.State.{State};
 ghost use Rattle.aria_host.specs.Calls.{Lists, extent_of, IsPage, Unchanged, HaveNames, Narrows, Writes, Cuts, Creates, Removes, Syncs, Tells, HasTellCause, HasDiskCause, HasDiskOrMemoryCause};
@@ -33,6 +33,12 @@ pub trait Host {
     /// The folder, what was told, and what a crash may leave.
     ghost state: { Self → State };
 
+    ghost use Rattle.aria_host.specs.declared.file_name.FileName.{FileName};
+    ghost use Rattle.aria_host.specs.declared.host.Extent.{Extent};
+
+    /// What a look at a file may find, also where the folder isn't told: there nothing else is known of a file's length.
+    ghost may_find: { Self → FileName → Option Extent → Type 0 };
+
     /// The names of all files of the folder that are of the forms of `FileName`. It brings them to the disk: after it,
     /// a crash leaves the files of these names, and no others.
     fn names(&mut self, alloc: Global) -> Result<List<FileName>, Fault>
@@ -47,6 +53,7 @@ pub trait Host {
         requires { IsFileName file.now }
         ensures found { IsTrue tells → IfOk result (λ found. found ≡ extent_of ((state self.old).folder file.now)) }
         ensures pages { IfOk result (λ found. IfSome found (λ extent. extent.pages ≤ 2 ^ 31)) }
+        ensures may { IfOk result (λ found. may_find self.old file.now found) }
         ensures same { IsTrue tells → Unchanged (state self.old) (state self.new) }
         ensures cause { HasDiskCause (state self.old) (state self.new) result };
 

@@ -309,6 +309,8 @@ impl Host for MemHost {
 
     ghost state = { mem_state };
 
+    ghost may_find = { λ host file found. found ≡ extent_of ((mem_state host).folder file) };
+
     fn names(&mut self, alloc: Global) -> Result<List<FileName>, Fault>
         ensures names { IfOk result (λ names. Lists (mem_state self.old).folder names) }
         ensures forms { IfOk result (λ names. All IsFileName names) }
