@@ -1,7 +1,7 @@
 -- What stands in the control file, before and after its page is put.
-use Rattle.std.proofs.Common.{◌≡◌, inl, inr, ℕ, ◌-◌, Option, None, Some, List, [], ◌∷◌, ◌++◌, length, drop, take, replicate, sym, ◌∙◌, ap, subst, arith, rules}
+use Rattle.std.proofs.Common.{◌≡◌, inl, inr, ℕ, ◌-◌, Option, None, Some, List, [], ◌∷◌, ◌++◌, length, drop, take, replicate, refl, sym, ◌∙◌, ap, subst, arith, rules}
 use Rattle.std.specs.Prelude.{IsSome, slice_get, option_and_then}
-use Rattle.std.specs.Option.{option_map}
+use Rattle.std.specs.Option.{option_map, option_map_or}
 use Rattle.std.proofs.lemmas.Option.{same_Some}
 use Rattle.aria_page.specs.Page.{zero_page, Sums}
 use Rattle.aria_host.specs.Folder.{Folder, put_page, with_page}
@@ -10,7 +10,7 @@ use Rattle.aria_host.proofs.Files.{with_file-same}
 use Rattle.aria_control.specs.declared.control.Control.{Control}
 use Rattle.aria_control.specs.declared.found.Found.TheVariants.{Kept}
 use Rattle.aria_control.specs.ControlPage.{control_page, named_by, HasMagic, IsStorable}
-use Rattle.aria_control.specs.Found.{control_file, Begins, BeginsWith, IsBlank, Finds}
+use Rattle.aria_control.specs.Found.{control_file, Begins, BeginsWith, HasPages, IsBlank, Finds}
 use Rattle.aria_control.specs.Written.{Keeps}
 use Rattle.aria_control.proofs.Spelled.{named_again, magic_there, magic_not_zero}
 
@@ -39,7 +39,7 @@ not_blank page content magic (more, is) (inr (inr zeros)) =
 found_kept : (control : Control) (page : List ℕ) (folder : Folder) → IsStorable control → page ≡ control_page control → Sums page → BeginsWith page (folder control_file) → Finds (Kept control) folder
 found_kept control page folder storable is sums first =
     let magic : HasMagic page = subst (λ (l : List ℕ). HasMagic l) (sym is) (magic_there control) in
-    (page, record { first = first; some = not_blank page (folder control_file) magic first }, (magic, sums, sym (ap named_by is ∙ named_again control storable)))
+    inr (page, record { first = first; some = not_blank page (folder control_file) magic first }, (magic, sums, sym (ap named_by is ∙ named_again control storable)))
 
 -- a file in which a page was put begins with it
 begins_put : (page : List ℕ) (content : Option (List (List ℕ))) → IsSome content → BeginsWith page (option_map (put_page 0 page) content)
@@ -57,7 +57,8 @@ put_found control page is sums storable folder some =
 
 -- what is found depends on the control file alone where its page is good
 found_same : (control : Control) (a b : Folder) → b control_file ≡ a control_file → Finds (Kept control) a → Finds (Kept control) b
-found_same control a b same (page, begins, reads) = (page, subst (λ (o : Option (List (List ℕ))). Begins page o) (sym same) begins, reads)
+found_same control a b same (inl blank) = absurd blank.1
+found_same control a b same (inr (page, begins, says)) = inr (page, subst (λ (o : Option (List (List ℕ))). Begins page o) (sym same) begins, says)
 
 -- the control is found in the folder and in each image once its page was put and synced
 pub kept_everywhere : (control : Control) (old new : State) → Finds (Kept control) (with_page control_file 0 (control_page control) old.folder)
@@ -65,3 +66,14 @@ pub kept_everywhere : (control : Control) (old new : State) → Finds (Kept cont
 kept_everywhere control old new found folder durable =
     let now : Finds (Kept control) new.folder = subst (λ (g : Folder). Finds (Kept control) g) (sym folder) found in
     record { now = now; images = λ c leaves. found_same control new.folder c (durable c leaves) now }
+
+-- a file of no pages is blank
+pub none_blank : (content : Option (List (List ℕ))) (n : ℕ) → option_map_or length content 0 ≡ n → n ≡ 0 → IsBlank content
+none_blank None n is none = inl refl
+none_blank (Some []) n is none = inr (inl refl)
+none_blank (Some (p ∷ more)) n is none = absurd (omega (arith, is, none))
+
+-- a file of some pages is there
+pub pages_there : (content : Option (List (List ℕ))) (n : ℕ) → option_map_or length content 0 ≡ n → (n ≡ 0 → ⊥) → HasPages n content
+pages_there None n is some = absurd (some (sym is))
+pages_there (Some pages) n is some = ap Some is

@@ -1,15 +1,17 @@
 -- What a folder's control file is.
-use Rattle.std.specs.Prelude.{◌≡◌, ◌⊎◌, ⊤, ℕ, Bool, true, false, IsSome, Option, None, Some, List, [], ◌∷◌, length}
+use Rattle.std.specs.Prelude.{◌≡◌, ◌≢◌, ◌⊎◌, ◌≤◌, ⊤, ℕ, Bool, true, false, if◌then◌else◌, IsTrue, IsSome, Option, None, Some, List, [], ◌∷◌, length, Result, Ok, Err, IfErr, IsErrOf}
 use Rattle.std.specs.Option.{option_map}
 use Rattle.aria_page.specs.Page.{zero_page, Sums}
+use Rattle.aria_host.specs.declared.fault.Fault.{Fault}
+use Rattle.aria_host.specs.declared.fault.Fault.TheVariants.{Memory, Disk, NotOurs, FileMissing, ControlDamaged}
 use Rattle.aria_host.specs.declared.file_name.FileName.{FileName}
 use Rattle.aria_host.specs.declared.file_name.FileName.TheVariants.{Control as ControlFile}
+use Rattle.aria_host.specs.declared.host.Extent.{Extent}
+use Rattle.aria_host.specs.Count.{Rose}
 use Rattle.aria_host.specs.Folder.{Folder, IsFileName}
+use Rattle.aria_host.specs.State.{State}
 use Rattle.aria_control.specs.declared.found.Found.{Found}
-use Rattle.aria_control.specs.declared.found.Found.TheVariants.{Fresh, Kept, Damaged}
-use Rattle.aria_control.specs.declared.found.Damage.TheVariants.{Missing, NotOurs, Checksum}
-use Rattle.aria_control.specs.declared.reading.Content.{Content}
-use Rattle.aria_control.specs.declared.reading.Content.TheVariants.{Blank, Odd, Page}
+use Rattle.aria_control.specs.declared.found.Found.TheVariants.{Fresh, Kept}
 use Rattle.aria_control.specs.ControlPage.{named_by, HasMagic, IsStorable}
 
 -- the control file
@@ -45,29 +47,69 @@ pub record HasOther (folder : Folder) : Type 0 where
   pub other : is_control file ≡ false
   pub there : IsSome (folder file)
 
--- what a page says
-abbrev pub Reads : Found → List ℕ → Type 0
-Reads (Damaged NotOurs) page = ¬ HasMagic page
-Reads (Damaged Checksum) page = HasMagic page × (¬ Sums page)
-Reads (Kept control) page = HasMagic page × Sums page × (control ≡ named_by page)
-Reads (Damaged Missing) page = ⊥
-Reads Fresh page = ⊥
+-- the first page of a file that isn't blank
+abbrev pub IsFirst : Option (List ℕ) → Option (List (List ℕ)) → Type 0
+IsFirst None content = IsBlank content
+IsFirst (Some page) content = Begins page content
 
--- This is what the folder's control file is. Without a page other files decide, and else the first page does.
+-- what is answered of a folder with a blank control file
+abbrev pub OnBlank : Result Found Fault → Folder → Type 0
+OnBlank (Ok Fresh) folder = ¬ HasOther folder
+OnBlank (Ok (Kept control)) folder = ⊥
+OnBlank (Err (FileMissing file)) folder = (file ≡ control_file) × HasOther folder
+OnBlank (Err _) folder = ⊥
+
+-- what is answered of a control file that isn't blank, by its first page
+abbrev pub OnPage : Result Found Fault → List ℕ → Type 0
+OnPage (Ok (Kept control)) page = HasMagic page × Sums page × (control ≡ named_by page)
+OnPage (Ok Fresh) page = ⊥
+OnPage (Err (NotOurs file)) page = (file ≡ control_file) × (¬ HasMagic page)
+OnPage (Err ControlDamaged) page = HasMagic page × (¬ Sums page)
+OnPage (Err _) page = ⊥
+
+-- what is answered of a folder
+abbrev pub Answers : Result Found Fault → Folder → Type 0
+Answers result folder =
+    (IsBlank (folder control_file) × OnBlank result folder)
+    ⊎ ((page : List ℕ) × Begins page (folder control_file) × OnPage result page)
+
+-- this is found in a folder
 abbrev pub Finds : Found → Folder → Type 0
-Finds Fresh folder = IsBlank (folder control_file) × (¬ HasOther folder)
-Finds (Damaged Missing) folder = IsBlank (folder control_file) × HasOther folder
-Finds (Damaged NotOurs) folder = (page : List ℕ) × Begins page (folder control_file) × Reads (Damaged NotOurs) page
-Finds (Damaged Checksum) folder = (page : List ℕ) × Begins page (folder control_file) × Reads (Damaged Checksum) page
-Finds (Kept control) folder = (page : List ℕ) × Begins page (folder control_file) × Reads (Kept control) page
+Finds found folder = Answers (Ok found) folder
+
+-- the disk or memory failed
+abbrev pub Fails : Result Found Fault → Type 0
+Fails (Err Disk) = ⊤
+Fails (Err (Memory error)) = ⊤
+Fails _ = ⊥
+
+-- how many pages a look found; none where the file's length is no multiple of a page's
+abbrev pub whole_pages : Option Extent → Option ℕ
+whole_pages None = Some 0
+whole_pages (Some extent) = if extent.odd then None else Some extent.pages
+
+-- a file whose length is no multiple of a page's isn't the program's
+abbrev pub FitsLength : Option Extent → Result Found Fault → Type 0
+FitsLength looked result = whole_pages looked ≡ None → result ≡ Err (NotOurs control_file)
+
+-- the faults that reading answers: the disk or memory failed, or the control file is missing, foreign or damaged
+abbrev pub IsReadFault : Fault → Type 0
+IsReadFault Disk = ⊤
+IsReadFault (Memory error) = ⊤
+IsReadFault (FileMissing file) = file ≡ control_file
+IsReadFault (NotOurs file) = file ≡ control_file
+IsReadFault ControlDamaged = ⊤
+IsReadFault _ = ⊥
+
+-- No other fault is answered, and that of the disk only where one was counted; none was unless the disk or memory failed.
+pub record HasReadCause (old new : State) (result : Result Found Fault) : Type 0 where
+  pub only : IfErr result IsReadFault
+  pub counted : IsErrOf result Disk → Rose old.disk_faults new.disk_faults
+  pub calm : Fails result ⊎ (new.disk_faults ≡ old.disk_faults)
+  pub later : old.disk_faults ≤ new.disk_faults
+  pub tell : new.tell_faults ≡ old.tell_faults
 
 -- what it names can be stored
 abbrev pub IsFoundStorable : Found → Type 0
 IsFoundStorable (Kept control) = IsStorable control
-IsFoundStorable _ = ⊤
-
--- what stands in the file
-abbrev pub IsContent : Content → Option (List (List ℕ)) → Type 0
-IsContent Blank content = IsBlank content
-IsContent Odd content = ⊥
-IsContent (Page page) content = Begins page content
+IsFoundStorable Fresh = ⊤

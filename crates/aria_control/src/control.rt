@@ -7,7 +7,7 @@ ghost use Rattle.aria_control.specs.declared.found.Found.TheVariants.{Kept};
 ghost use Rattle.aria_control.specs.Found.{control_file, Finds};
 ghost use Rattle.aria_control.specs.ControlPage.{magic, control_page, named_by, HasMagic, IsStorable};
 
-use aria_page::{Lsn, Page, bytes_from, lsn_of};
+use aria_page::{LSN_BYTES, Lsn, Page, SUM_BYTES, bytes_from, lsn_of};
 
 /// What the control file names. Each log sequence number has a file number below 2^24.
 #[derive(Clone, Copy, Debug, PartialEq, Eq)]
@@ -18,13 +18,15 @@ pub struct Control {
     pub redo: Lsn,
 }
 
-const MAGIC: [u8; 8] = *b"ARIAOWN1";
+const MAGIC_BYTES: usize = 8;
 
-const MAGIC_AT: usize = 4;
+const MAGIC: [u8; MAGIC_BYTES] = *b"ARIAOWN1";
 
-const CHECKPOINT_AT: usize = 12;
+const MAGIC_AT: usize = SUM_BYTES;
 
-const REDO_AT: usize = 19;
+const CHECKPOINT_AT: usize = MAGIC_AT + MAGIC_BYTES;
+
+const REDO_AT: usize = CHECKPOINT_AT + LSN_BYTES;
 
 // So many bytes from the front.
 fn front(bytes: &[u8], count: usize) -> &[u8]
@@ -74,7 +76,7 @@ pub(crate) fn has_magic(page: &Page) -> bool
     ensures { IsTrue result ↔ HasMagic page.now }
 {
     same_bytes(
-        front(bytes_from(page.bytes(), MAGIC_AT), MAGIC.len()),
+        front(bytes_from(page.bytes(), MAGIC_AT), MAGIC_BYTES),
         &MAGIC,
     )
 }

@@ -1,7 +1,7 @@
 ghost use Rattle.std.specs.Prelude.{◌<◌, IfSome};
 ghost use Rattle.aria_host.specs.Folder.{IsFileName};
 
-use crate::{Control, Damage, Found, read, write};
+use crate::{Control, Found, read, write};
 use aria_host::{DirHost, Fate, Fault, FileName, Host, MemHost};
 use aria_page::{List, Lsn, Page};
 use std::alloc::Global;
@@ -85,32 +85,80 @@ fn found_empty(alloc: Global, other: Option<FileName>) -> Result<Found, Fault>
     read(alloc, &mut host)
 }
 
+fn is_fresh(read: &Result<Found, Fault>) -> bool {
+    matches!(read, Ok(Found::Fresh))
+}
+
+fn is_kept(read: &Result<Found, Fault>, file: u32, offset: u32) -> bool {
+    match read {
+        Ok(found) => *found == Found::Kept(control(file, offset)),
+        Err(_) => false,
+    }
+}
+
+fn is_missing(read: &Result<Found, Fault>) -> bool {
+    matches!(
+        read,
+        Err(Fault::FileMissing {
+            file: FileName::Control
+        })
+    )
+}
+
+fn is_not_ours(read: &Result<Found, Fault>) -> bool {
+    matches!(
+        read,
+        Err(Fault::NotOurs {
+            file: FileName::Control
+        })
+    )
+}
+
 #[test]
-fn a_folder_has_a_control_or_none(rt: HostRuntime) -> Result<(), Fail> {
+fn a_blank_control_file_is_fresh_or_missing(rt: HostRuntime) {
     let alloc = rt.alloc();
-    let kept = Found::Kept(control(2, 0x2010));
-    let missing = Found::Damaged(Damage::Missing);
-    let not_ours = Found::Damaged(Damage::NotOurs);
     let zeros = Page::zero();
+    assert!(rt; is_fresh(&found(alloc, None, None, None)));
+    assert!(rt; is_missing(&found(alloc, None, None, Some(LOG))));
+    assert!(rt; is_fresh(&found_empty(alloc, None)));
+    assert!(rt; is_missing(&found_empty(alloc, Some(LOG))));
+    assert!(rt; is_fresh(&found(alloc, Some(&zeros), None, None)));
+    assert!(rt; is_missing(&found(alloc, Some(&zeros), None, Some(LOG))));
+    assert!(rt; is_not_ours(&found(alloc, Some(&zeros), Some(&zeros), None)));
+}
+
+#[test]
+fn a_page_is_kept_or_foreign_or_damaged(rt: HostRuntime) {
+    let alloc = rt.alloc();
     let page = spelled();
-    assert!(rt; found(alloc, None, None, None)? == Found::Fresh);
-    assert!(rt; found(alloc, None, None, Some(LOG))? == missing);
-    assert!(rt; found_empty(alloc, None)? == Found::Fresh);
-    assert!(rt; found_empty(alloc, Some(LOG))? == missing);
-    assert!(rt; found(alloc, Some(&zeros), None, None)? == Found::Fresh);
-    assert!(rt; found(alloc, Some(&zeros), None, Some(LOG))? == missing);
-    assert!(rt; found(alloc, Some(&zeros), Some(&zeros), None)? == not_ours);
-    assert!(rt; found(alloc, Some(&page), None, None)? == kept);
-    assert!(rt; found(alloc, Some(&page), None, Some(LOG))? == kept);
-    assert!(rt; found(alloc, Some(&page), Some(&zeros), Some(LOG))? == kept);
+    let zeros = Page::zero();
+    assert!(rt; is_kept(&found(alloc, Some(&page), None, None), 2, 0x2010));
+    assert!(rt; is_kept(&found(alloc, Some(&page), None, Some(LOG)), 2, 0x2010));
+    assert!(rt;
+        is_kept(
+            &found(alloc, Some(&page), Some(&zeros), Some(LOG)),
+            2,
+            0x2010
+        )
+    );
     // The first byte of the magic; a byte of the zeros; the same with its checksum set.
     let other = with_byte(4, b'a');
     let broken = with_byte(30, 1);
-    assert!(rt; found(alloc, Some(&other), None, Some(LOG))? == not_ours);
-    assert!(rt; found(alloc, Some(&summed(&other)), None, Some(LOG))? == not_ours);
-    assert!(rt; found(alloc, Some(&broken), None, Some(LOG))? == Found::Damaged(Damage::Checksum));
-    assert!(rt; found(alloc, Some(&summed(&broken)), None, Some(LOG))? == kept);
-    Ok(())
+    assert!(rt; is_not_ours(&found(alloc, Some(&other), None, Some(LOG))));
+    assert!(rt; is_not_ours(&found(alloc, Some(&summed(&other)), None, Some(LOG))));
+    assert!(rt;
+        matches!(
+            found(alloc, Some(&broken), None, Some(LOG)),
+            Err(Fault::ControlDamaged)
+        )
+    );
+    assert!(rt;
+        is_kept(
+            &found(alloc, Some(&summed(&broken)), None, Some(LOG)),
+            2,
+            0x2010
+        )
+    );
 }
 
 // Writes two controls on a page of zeros, where the host's call of that number fails.
@@ -142,12 +190,10 @@ fn survives(alloc: Global, fails: u64, keeps: bool) -> Result<Found, Fault> {
 #[test]
 fn a_crash_leaves_the_page_as_it_was_or_the_new_one(rt: HostRuntime) -> Result<(), Fail> {
     let alloc = rt.alloc();
-    let first = Found::Kept(control(1, 16));
-    let second = Found::Kept(control(2, 0x2010));
-    assert!(rt; survives(alloc, 2, true)? == first);
-    assert!(rt; survives(alloc, 3, false)? == first);
-    assert!(rt; survives(alloc, 3, true)? == second);
-    assert!(rt; survives(alloc, 4, false)? == second);
+    assert!(rt; is_kept(&survives(alloc, 2, true), 1, 16));
+    assert!(rt; is_kept(&survives(alloc, 3, false), 1, 16));
+    assert!(rt; is_kept(&survives(alloc, 3, true), 2, 0x2010));
+    assert!(rt; is_kept(&survives(alloc, 4, false), 2, 0x2010));
     let host = write_both(alloc, &control(1, 16), &control(2, 0x2010), 4)?;
     let page = host.page(&CONTROL, 0).ok_or("no page")?;
     assert!(rt; page.bytes() == spelled().bytes());
@@ -162,7 +208,7 @@ fn is_odd(alloc: Global, host: &mut DirHost, file: &FileName) -> Result<bool, Fa
         Some(extent) => extent.odd,
         None => false,
     };
-    Ok(odd && read(alloc, host)? == Found::Damaged(Damage::NotOurs))
+    Ok(odd && is_not_ours(&read(alloc, host)))
 }
 
 // The length of a real file may be no multiple of a page's.
