@@ -7,7 +7,7 @@ use Rattle.aria_page.specs.Field.{AreBytes, Takes}
 use Rattle.aria_page.proofs.Fields.{AreBytes-drop}
 use Rattle.aria_keypage.specs.Item.{Item, IsItem}
 use Rattle.aria_keypage.specs.Packed.{packed_item, packed, ArePacked}
-use Rattle.aria_keypage.specs.Raw.{Raw, raw_of, raw_at, entry_of, IsStored}
+use Rattle.aria_keypage.specs.StoredItem.{StoredItem, as_stored, stored_at, entry_of, IsStored}
 use Rattle.aria_keypage.proofs.Stored.{IsRaw, raw_bytes, item_again, item_of, raw_of-item_of, item_of-fits, item_of-raw_of, packed_item_is, stored_of, length-raw_bytes}
 
 -- the last entry of items behind an entry
@@ -46,7 +46,7 @@ unfolding packed
 counted-none width bytes = record { done = []; all = tt; parts = refl; last = refl; number = refl; room = omega arith }
 
 -- one more, which stands as it must
-pub counted-more : (width : ℕ) (bytes before rest : List ℕ) (count : ℕ) (x : Raw × List ℕ) → Counted width bytes before rest count → Takes rest (raw_bytes x.0) x.1 → IsRaw width x.0 → IsStored before x.0
+pub counted-more : (width : ℕ) (bytes before rest : List ℕ) (count : ℕ) (x : StoredItem × List ℕ) → Counted width bytes before rest count → Takes rest (raw_bytes x.0) x.1 → IsRaw width x.0 → IsStored before x.0
     → Counted width bytes (entry_of before x.0) x.1 (count + 1)
 unfolding packed
 counted-more width bytes before rest count x h takes raw stored =
@@ -75,7 +75,7 @@ counted-bytes width bytes before rest count are h =
     subst AreBytes same (AreBytes-drop (length (packed width [] h.done)) bytes are)
 
 -- a rest is shorter by an item that was read
-pub rest-shorter : (rest : List ℕ) (x : Raw × List ℕ) → Takes rest (raw_bytes x.0) x.1 → length x.1 < length rest
+pub rest-shorter : (rest : List ℕ) (x : StoredItem × List ℕ) → Takes rest (raw_bytes x.0) x.1 → length x.1 < length rest
 rest-shorter rest x takes = omega (arith, ap length takes.parts, length-append (raw_bytes x.0) x.1, length-raw_bytes x.0)
 
 -- the items, and the bytes that they leave
@@ -90,18 +90,18 @@ pub items_go_on : (width : ℕ) (before rest : List ℕ) (done xs : List Item) �
 unfolding packed
 items_go_on width before rest [] xs p q e = record { more = xs; all = q; is = e }
 items_go_on width before rest (x ∷ done) [] p q e =
-    absurd (omega (arith, ap length e, length-append (packed_item width before x ++ packed width x.entry done) rest, length-append (packed_item width before x) (packed width x.entry done), ap length (packed_item_is width before x), length-raw_bytes (raw_of width before x)))
+    absurd (omega (arith, ap length e, length-append (packed_item width before x ++ packed width x.entry done) rest, length-append (packed_item width before x) (packed width x.entry done), ap length (packed_item_is width before x), length-raw_bytes (as_stored width before x)))
 items_go_on width before rest (x ∷ done) (y ∷ xs) p q e =
     let whole : packed_item width before x ++ (packed width x.entry done ++ rest) ≡ packed_item width before y ++ packed width y.entry xs = sym (append_assoc (packed_item width before x) (packed width x.entry done) rest) ∙ e in
-    let one : raw_at width (packed_item width before x ++ (packed width x.entry done ++ rest)) ≡ Some (raw_of width before x, packed width x.entry done ++ rest) = item_again width before x (packed width x.entry done ++ rest) p.0 in
-    let two : raw_at width (packed_item width before y ++ packed width y.entry xs) ≡ Some (raw_of width before y, packed width y.entry xs) = item_again width before y (packed width y.entry xs) q.0 in
-    let same = same_Some (raw_of width before x, packed width x.entry done ++ rest) (raw_of width before y, packed width y.entry xs) (sym one ∙ ap (raw_at width) whole ∙ two) in
-    let item : x ≡ y = sym (item_of-raw_of width before x p.0.to) ∙ ap (λ (r : Raw × List ℕ). item_of before width r.0) same ∙ item_of-raw_of width before y q.0.to in
-    let behind : packed width x.entry done ++ rest ≡ packed width x.entry xs = ap (λ (r : Raw × List ℕ). r.1) same ∙ ap (λ (z : Item). packed width z.entry xs) (sym item) in
+    let one : stored_at width (packed_item width before x ++ (packed width x.entry done ++ rest)) ≡ Some (as_stored width before x, packed width x.entry done ++ rest) = item_again width before x (packed width x.entry done ++ rest) p.0 in
+    let two : stored_at width (packed_item width before y ++ packed width y.entry xs) ≡ Some (as_stored width before y, packed width y.entry xs) = item_again width before y (packed width y.entry xs) q.0 in
+    let same = same_Some (as_stored width before x, packed width x.entry done ++ rest) (as_stored width before y, packed width y.entry xs) (sym one ∙ ap (stored_at width) whole ∙ two) in
+    let item : x ≡ y = sym (item_of-raw_of width before x p.0.to) ∙ ap (λ (r : StoredItem × List ℕ). item_of before width r.0) same ∙ item_of-raw_of width before y q.0.to in
+    let behind : packed width x.entry done ++ rest ≡ packed width x.entry xs = ap (λ (r : StoredItem × List ℕ). r.1) same ∙ ap (λ (z : Item). packed width z.entry xs) (sym item) in
     items_go_on width x.entry rest done xs p.1 q.1 behind
 
 -- where nothing is read any more though bytes are left, no items spell the bytes
-pub counted-stuck : (width : ℕ) (bytes before rest : List ℕ) (count : ℕ) (xs : List Item) → Counted width bytes before rest count → (length rest ≡ 0 → ⊥) → raw_at width rest ≡ None → ArePacked width xs bytes → ⊥
+pub counted-stuck : (width : ℕ) (bytes before rest : List ℕ) (count : ℕ) (xs : List Item) → Counted width bytes before rest count → (length rest ≡ 0 → ⊥) → stored_at width rest ≡ None → ArePacked width xs bytes → ⊥
 unfolding packed
 counted-stuck width bytes before rest count xs h left none is =
     let on = items_go_on width [] rest h.done xs h.all is.all (sym h.parts ∙ is.is) in
@@ -110,11 +110,11 @@ counted-stuck width bytes before rest count xs h left none is =
     by : (more : List Item) → AllByRecursion (IsItem width) more → rest ≡ packed width (last_entry [] h.done) more → ⊥
     by [] all e = left (ap length e)
     by (x ∷ more) all e =
-        let some : raw_at width rest ≡ Some (raw_of width (last_entry [] h.done) x, packed width x.entry more) = ap (raw_at width) e ∙ item_again width (last_entry [] h.done) x (packed width x.entry more) all.0 in
+        let some : stored_at width rest ≡ Some (as_stored width (last_entry [] h.done) x, packed width x.entry more) = ap (stored_at width) e ∙ item_again width (last_entry [] h.done) x (packed width x.entry more) all.0 in
         absurd cc
 
 -- where what is read does not stand as it must, no items spell the bytes
-pub counted-odd : (width : ℕ) (bytes before rest : List ℕ) (count : ℕ) (xs : List Item) (r : Raw × List ℕ) → Counted width bytes before rest count → (length rest ≡ 0 → ⊥) → raw_at width rest ≡ Some r → (IsStored before r.0 → ⊥) → ArePacked width xs bytes → ⊥
+pub counted-odd : (width : ℕ) (bytes before rest : List ℕ) (count : ℕ) (xs : List Item) (r : StoredItem × List ℕ) → Counted width bytes before rest count → (length rest ≡ 0 → ⊥) → stored_at width rest ≡ Some r → (IsStored before r.0 → ⊥) → ArePacked width xs bytes → ⊥
 unfolding packed
 counted-odd width bytes before rest count xs r h left read odd is =
     let on = items_go_on width [] rest h.done xs h.all is.all (sym h.parts ∙ is.is) in
@@ -124,9 +124,9 @@ counted-odd width bytes before rest count xs r h left read odd is =
     by [] all e = left (ap length e)
     by (x ∷ more) all e =
         let last : List ℕ = last_entry [] h.done in
-        let some : raw_at width rest ≡ Some (raw_of width last x, packed width x.entry more) = ap (raw_at width) e ∙ item_again width last x (packed width x.entry more) all.0 in
-        let same = same_Some (raw_of width last x, packed width x.entry more) r (sym some ∙ read) in
-        odd (subst (λ (b : List ℕ). IsStored b r.0) (sym h.last) (subst (λ (y : Raw × List ℕ). IsStored last y.0) same (stored_of width last x all.0)))
+        let some : stored_at width rest ≡ Some (as_stored width last x, packed width x.entry more) = ap (stored_at width) e ∙ item_again width last x (packed width x.entry more) all.0 in
+        let same = same_Some (as_stored width last x, packed width x.entry more) r (sym some ∙ read) in
+        odd (subst (λ (b : List ℕ). IsStored b r.0) (sym h.last) (subst (λ (y : StoredItem × List ℕ). IsStored last y.0) same (stored_of width last x all.0)))
 
 -- at the end the items are those that were read
 pub counted-all : (width : ℕ) (bytes before rest : List ℕ) (count : ℕ) (h : Counted width bytes before rest count) → length rest ≡ 0 → ArePacked width h.done bytes

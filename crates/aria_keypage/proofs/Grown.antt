@@ -4,27 +4,27 @@ use Rattle.std.proofs.lemmas.Bool.{cases_lt}
 use Rattle.std.proofs.lemmas.List.{drop_all}
 use Rattle.aria_keypage.specs.Item.{Item, item_at, entry_before}
 use Rattle.aria_keypage.specs.Packed.{common, shared, packed, ArePacked, IsLeft}
-use Rattle.aria_keypage.specs.Raw.{Raw, raw_at}
+use Rattle.aria_keypage.specs.StoredItem.{StoredItem, stored_at}
 use Rattle.aria_keypage.specs.Content.{Content, width, item_bytes}
 use Rattle.aria_keypage.specs.Change.{with_item}
 use Rattle.aria_keypage.proofs.Shares.{common-turn}
 use Rattle.aria_keypage.proofs.Read.{raw-nil}
 use Rattle.aria_keypage.proofs.Sought.{read-shares}
 use Rattle.aria_keypage.proofs.Spliced.{grown-none, grown-some}
-use Rattle.aria_keypage.proofs.Walk.{left-more, left-read}
+use Rattle.aria_keypage.proofs.Left.{left-more, left-read}
 
 -- where an item is read, one is left
-pub left-low : (w : ℕ) (items : List Item) (at : ℕ) (rest : List ℕ) (x : Raw × List ℕ) → IsLeft w items at rest → raw_at w rest ≡ Some x → at < length items
+pub left-low : (w : ℕ) (items : List Item) (at : ℕ) (rest : List ℕ) (x : StoredItem × List ℕ) → IsLeft w items at rest → stored_at w rest ≡ Some x → at < length items
 unfolding packed
 left-low w items at rest x left e = elim (cases_lt at (length items)) [
   | inl lt ↦ lt
   | inr ge ↦
-      let none : raw_at w rest ≡ None = ap (raw_at w) (left.is ∙ ap (packed w (entry_before items at)) (drop_all at items ge)) ∙ raw-nil w in
+      let none : stored_at w rest ≡ None = ap (stored_at w) (left.is ∙ ap (packed w (entry_before items at)) (drop_all at items ge)) ∙ raw-nil w in
       absurd cc
 ]
 
 -- the size behind the last item
-pub grown-last : (c : Content) (at w n met : ℕ) (x : Item) (bytes rest : List ℕ) → ArePacked w c.items bytes → w ≡ width c.leaf → IsLeft w c.items at rest → raw_at w rest ≡ None → met ≡ common (entry_before c.items at) x.entry → n ≡ min 255 met
+pub grown-last : (c : Content) (at w n met : ℕ) (x : Item) (bytes rest : List ℕ) → ArePacked w c.items bytes → w ≡ width c.kind → IsLeft w c.items at rest → stored_at w rest ≡ None → met ≡ common (entry_before c.items at) x.entry → n ≡ min 255 met
     → length (item_bytes (with_item c at x)) + n ≡ length (item_bytes c) + 3 + w + length x.entry
 unfolding shared
 grown-last c at w n met x bytes rest is ew left none em en =
@@ -35,7 +35,7 @@ grown-last c at w n met x bytes rest is ew left none em en =
     omega (arith, grown-none c at n x end (en ∙ ap (min 255) em), ew)
 
 -- the size before another one
-pub grown-inside : (c : Content) (at w n k met same : ℕ) (x : Item) (bytes rest behind : List ℕ) (r : Raw) → ArePacked w c.items bytes → w ≡ width c.leaf → IsLeft w c.items at rest → raw_at w rest ≡ Some (r, behind)
+pub grown-inside : (c : Content) (at w n k met same : ℕ) (x : Item) (bytes rest behind : List ℕ) (r : StoredItem) → ArePacked w c.items bytes → w ≡ width c.kind → IsLeft w c.items at rest → stored_at w rest ≡ Some (r, behind)
     → met ≡ common (entry_before c.items at) x.entry → ((before there : List ℕ) → met ≡ common before x.entry → r.shared ≤ common before there → r.rest ≡ drop r.shared there → same ≡ common there x.entry)
     → n ≡ min 255 met → k ≡ min 255 same → length (item_bytes (with_item c at x)) + n + k ≡ length (item_bytes c) + 3 + w + length x.entry + r.shared
 unfolding shared
@@ -45,4 +45,4 @@ grown-inside c at w n k met same x bytes rest behind r is ew left e em told en e
     let more = left-more w c.items at rest (r, behind) is.all left e low in
     let read = read-shares w c.items at r more.0 in
     let turned : same ≡ common x.entry y.entry = told (entry_before c.items at) y.entry em read.0 read.1 ∙ common-turn y.entry x.entry in
-    omega (arith, grown-some c at n k r.shared x low (en ∙ ap (min 255) em) (ek ∙ ap (min 255) turned) (ap (λ (z : Raw). z.shared) more.0), ew)
+    omega (arith, grown-some c at n k r.shared x low (en ∙ ap (min 255) em) (ek ∙ ap (min 255) turned) (ap (λ (z : StoredItem). z.shared) more.0), ew)

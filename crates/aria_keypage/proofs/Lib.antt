@@ -1,6 +1,6 @@
 pub mod Shares
 pub mod Stored
-pub mod Walk
+pub mod Left
 pub mod Counted
 pub mod Read
 pub mod Options
@@ -8,6 +8,7 @@ pub mod Sought
 pub mod Patch
 pub mod Spliced
 pub mod Grown
+pub mod Next
 pub mod Whole
 pub mod Joined
 pub mod Fitting

@@ -5,7 +5,7 @@ use Rattle.aria_page.specs.Edit.{edited}
 use Rattle.aria_page.specs.Page.{with_bytes}
 use Rattle.aria_page.specs.Number.{number}
 use Rattle.aria_page.proofs.Numbers.{length-number}
-use Rattle.aria_keypage.specs.Content.{Content, kind, item_bytes, front, IsContent}
+use Rattle.aria_keypage.specs.Content.{Content, kind_byte, item_bytes, front, IsContent}
 use Rattle.aria_keypage.specs.Change.{edited_by, Changes, patch}
 
 -- bytes put over as many
@@ -44,10 +44,10 @@ patched head count a m z rest new two two_more room =
     (last, ap (λ (l : List ℕ). with_bytes 2 size (with_bytes n new l)) first ∙ ap (with_bytes 2 size) (second ∙ split) ∙ third)
 
 -- a page whose item bytes differ in one place is made by these edits
-pub patch-changes : (c d : Content) (a m z new : List ℕ) → IsContent c → IsContent d → d.leaf ≡ c.leaf → d.key ≡ c.key → item_bytes c ≡ a ++ (m ++ z) → item_bytes d ≡ a ++ (new ++ z)
+pub patch-changes : (c d : Content) (a m z new : List ℕ) → IsContent c → IsContent d → d.kind ≡ c.kind → d.key ≡ c.key → item_bytes c ≡ a ++ (m ++ z) → item_bytes d ≡ a ++ (new ++ z)
     → Changes (patch (length a) (length m) (length z) new) c d
 unfolding front
-patch-changes c d a m z new pc pd leaf key ec ed =
+patch-changes c d a m z new pc pd kind key ec ed =
     let before : length a + length m + length z ≤ 8177 = omega (arith, pc.size, ap length ec, length-append a (m ++ z), length-append m z) in
     let size : length (item_bytes d) ≡ length a + length new + length z = omega (arith, ap length ed, length-append a (new ++ z), length-append new z) in
     let after : length a + length new + length z ≤ 8177 = omega (arith, pd.size, size) in
@@ -55,15 +55,15 @@ patch-changes c d a m z new pc pd leaf key ec ed =
     record {
       within = ((omega arith, omega arith), (omega arith, (omega (arith, two), tt)));
       body = λ body len is.
-          let head : List ℕ = number 1 (kind c.leaf) ++ number 1 c.key in
+          let head : List ℕ = number 1 (kind_byte c.kind) ++ number 1 c.key in
           let count : List ℕ = number 2 (length (item_bytes c)) in
-          let regrouped : (number 1 (kind c.leaf) ++ (number 1 c.key ++ (count ++ (a ++ (m ++ z))))) ++ is.behind ≡ head ++ (count ++ (a ++ (m ++ (z ++ is.behind)))) = simp append_assoc in
+          let regrouped : (number 1 (kind_byte c.kind) ++ (number 1 c.key ++ (count ++ (a ++ (m ++ z))))) ++ is.behind ≡ head ++ (count ++ (a ++ (m ++ (z ++ is.behind)))) = simp append_assoc in
           let parts : body ≡ head ++ (count ++ (a ++ (m ++ (z ++ is.behind)))) =
-          is.parts ∙ ap (λ (l : List ℕ). (number 1 (kind c.leaf) ++ (number 1 c.key ++ (count ++ l))) ++ is.behind) ec ∙ regrouped in
-          let long : length head ≡ 2 = omega (arith, length-append (number 1 (kind c.leaf)) (number 1 c.key), length-number 1 (kind c.leaf), length-number 1 c.key) in
+          is.parts ∙ ap (λ (l : List ℕ). (number 1 (kind_byte c.kind) ++ (number 1 c.key ++ (count ++ l))) ++ is.behind) ec ∙ regrouped in
+          let long : length head ≡ 2 = omega (arith, length-append (number 1 (kind_byte c.kind)) (number 1 c.key), length-number 1 (kind_byte c.kind), length-number 1 c.key) in
           let there = patched head count a m z is.behind new long (length-number 2 (length (item_bytes c))) (omega (arith, ap length parts)) in
           let behind : List ℕ = there.0 in
           let whole : front d ++ behind ≡ head ++ (number 2 (length a + length new + length z) ++ (a ++ (new ++ (z ++ behind)))) =
-          (λ i. (number 1 (kind (leaf i)) ++ (number 1 (key i) ++ (number 2 (size i) ++ ed i))) ++ behind) ∙ simp append_assoc in
+          (λ i. (number 1 (kind_byte (kind i)) ++ (number 1 (key i) ++ (number 2 (size i) ++ ed i))) ++ behind) ∙ simp append_assoc in
           record { content = pd; behind = behind; parts = ap (edited_by (patch (length a) (length m) (length z) new)) parts ∙ there.1 ∙ sym whole };
     }

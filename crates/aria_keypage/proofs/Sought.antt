@@ -9,10 +9,10 @@ use Rattle.std.proofs.lemmas.Bool.Decides.{nat_tests}
 use Rattle.std.proofs.lemmas.List.Sums.{prefix_len-drop_yes, prefix_len-drop_no, prefix_len-drop_all}
 use Rattle.aria_keypage.specs.Item.{Item, item_at, entry_before, is_below, IsPlace}
 use Rattle.aria_keypage.specs.Packed.{common, shared, ArePacked, IsLeft}
-use Rattle.aria_keypage.specs.Raw.{Raw, raw_of}
+use Rattle.aria_keypage.specs.StoredItem.{StoredItem, as_stored}
 use Rattle.aria_keypage.proofs.Shares.{common-le, common-drop, order-drop, common-beyond, below-beyond, order-same, common-both}
 use Rattle.aria_keypage.proofs.Stored.{shared-le}
-use Rattle.aria_keypage.proofs.Walk.{left-all}
+use Rattle.aria_keypage.proofs.Left.{left-all}
 
 -- an entry is none before itself
 order-itself : (a : List ℕ) → slice_cmp nat_cmp a a ≡ Equal
@@ -31,13 +31,13 @@ pub sought-none : (width : ℕ) (items : List Item) (entry bytes : List ℕ) →
 sought-none width items entry bytes is = record { left = left-all width items bytes is; met_is = refl; below = λ h. absurd (omega arith); before = omega arith }
 
 -- what was read of an item shares no more than it has in common with the entry before it
-pub read-shares : (width : ℕ) (items : List Item) (at : ℕ) (r : Raw) → r ≡ raw_of width (entry_before items at) (item_at items at)
+pub read-shares : (width : ℕ) (items : List Item) (at : ℕ) (r : StoredItem) → r ≡ as_stored width (entry_before items at) (item_at items at)
     → (r.shared ≤ common (entry_before items at) (item_at items at).entry) × (r.rest ≡ drop r.shared (item_at items at).entry)
 read-shares width items at r e =
     let n : ℕ = shared (entry_before items at) (item_at items at).entry in
-    let same : r.shared ≡ n = ap (λ (x : Raw). x.shared) e in (
+    let same : r.shared ≡ n = ap (λ (x : StoredItem). x.shared) e in (
       omega (arith, same, (shared-le (entry_before items at) (item_at items at).entry).2),
-      ap (λ (x : Raw). x.rest) e ∙ ap (λ (k : ℕ). drop k (item_at items at).entry) (sym same),
+      ap (λ (x : StoredItem). x.rest) e ∙ ap (λ (k : ℕ). drop k (item_at items at).entry) (sym same),
     )
 
 -- an item below what is sought is passed

@@ -1,15 +1,17 @@
 -- Packed items with one more or one fewer of them.
-use Rattle.std.proofs.Common.{◌≡◌, Bool, true, false, ℕ, zero, suc, ◌+◌, ◌-◌, ◌≤◌, ◌<◌, min, List, [], ◌∷◌, ◌++◌, length, take, drop, refl, sym, ap, subst, ◌∙◌, append_assoc, add-one, arith}
+use Rattle.std.proofs.Common.{◌≡◌, ℕ, zero, suc, ◌+◌, ◌-◌, ◌≤◌, ◌<◌, min, List, [], ◌∷◌, ◌++◌, length, take, drop, refl, sym, ap, subst, ◌∙◌, append_assoc, add-one, arith}
 use Rattle.std.specs.List.{AllByRecursion, sum_by}
 use Rattle.std.proofs.lemmas.List.{take-append-drop, drop_more, drop_all, length-append, length-drop}
 use Rattle.aria_page.specs.declared.edit.Edit.{Edit}
 use Rattle.aria_page.specs.Number.{number}
 use Rattle.aria_page.proofs.Numbers.{length-number, number-one}
+use Rattle.aria_keypage.specs.declared.kind.Kind.{Kind}
+use Rattle.aria_keypage.specs.declared.kind.Kind.TheVariants.{Leaf, Node}
 use Rattle.aria_keypage.specs.Item.{Item, IsItem, item_at, entry_before}
-use Rattle.aria_keypage.specs.Packed.{common, shared, packed_item, packed}
+use Rattle.aria_keypage.specs.Packed.{common, shared, packed_item, packed, IsLeft}
 use Rattle.aria_keypage.specs.Pieces.{first_packed, rest_packed}
 use Rattle.aria_keypage.specs.Content.{Content, width, first_bytes, item_bytes, IsContent}
-use Rattle.aria_keypage.specs.Change.{Changes, edit_bytes, with_item, without_item, patch}
+use Rattle.aria_keypage.specs.Change.{Changes, edit_bytes, with_item, without_item, inserted_bytes, removed_bytes, patch}
 use Rattle.aria_keypage.proofs.Shares.{common-both, common-turn}
 use Rattle.aria_keypage.proofs.Counted.{last_entry, packed-append, all-append}
 use Rattle.aria_keypage.proofs.Patch.{patch-changes}
@@ -62,36 +64,36 @@ all-drop P (suc n) (x ∷ xs) h = all-drop P n xs h.1
 
 -- the bytes of the items before a place, with a node's first child
 unfoldable pub bytes_before : Content → ℕ → List ℕ
-bytes_before c at = first_bytes c.leaf c.first ++ packed (width c.leaf) [] (take at c.items)
+bytes_before c at = first_bytes c.kind c.first ++ packed (width c.kind) [] (take at c.items)
 
 -- how many they are
-pub length-bytes_before : (c : Content) (at : ℕ) → at ≤ length c.items → length (bytes_before c at) + length (packed (width c.leaf) (entry_before c.items at) (drop at c.items)) ≡ length (item_bytes c)
+pub length-bytes_before : (c : Content) (at : ℕ) → at ≤ length c.items → length (bytes_before c at) + length (packed (width c.kind) (entry_before c.items at) (drop at c.items)) ≡ length (item_bytes c)
 unfolding bytes_before item_bytes
 length-bytes_before c at h =
-    let first : List ℕ = first_bytes c.leaf c.first in
-    let front : List ℕ = packed (width c.leaf) [] (take at c.items) in
-    let back : List ℕ = packed (width c.leaf) (entry_before c.items at) (drop at c.items) in
-    omega (arith, length-append first front, length-append first (packed (width c.leaf) [] c.items), ap length (packed-cut (width c.leaf) c.items at h), length-append front back)
+    let first : List ℕ = first_bytes c.kind c.first in
+    let front : List ℕ = packed (width c.kind) [] (take at c.items) in
+    let back : List ℕ = packed (width c.kind) (entry_before c.items at) (drop at c.items) in
+    omega (arith, length-append first front, length-append first (packed (width c.kind) [] c.items), ap length (packed-cut (width c.kind) c.items at h), length-append front back)
 
 -- the item bytes, cut at a place
-bytes-cut : (c : Content) (at : ℕ) (ys : List Item) (tail : List ℕ) → at ≤ length c.items → packed (width c.leaf) (entry_before c.items at) ys ≡ tail
-    → first_bytes c.leaf c.first ++ packed (width c.leaf) [] (take at c.items ++ ys) ≡ bytes_before c at ++ tail
+bytes-cut : (c : Content) (at : ℕ) (ys : List Item) (tail : List ℕ) → at ≤ length c.items → packed (width c.kind) (entry_before c.items at) ys ≡ tail
+    → first_bytes c.kind c.first ++ packed (width c.kind) [] (take at c.items ++ ys) ≡ bytes_before c at ++ tail
 unfolding bytes_before
 bytes-cut c at ys tail h e =
-    let first : List ℕ = first_bytes c.leaf c.first in
-    let front : List ℕ = packed (width c.leaf) [] (take at c.items) in
-    ap (λ (l : List ℕ). first ++ l) (packed-behind (width c.leaf) c.items ys at h ∙ ap (λ (l : List ℕ). front ++ l) e) ∙ sym (append_assoc first front tail)
+    let first : List ℕ = first_bytes c.kind c.first in
+    let front : List ℕ = packed (width c.kind) [] (take at c.items) in
+    ap (λ (l : List ℕ). first ++ l) (packed-behind (width c.kind) c.items ys at h ∙ ap (λ (l : List ℕ). front ++ l) e) ∙ sym (append_assoc first front tail)
 
 -- an item put at a place
-pub insert-changes : (c : Content) (at : ℕ) (x : Item) (before old behind : ℕ) (new : List ℕ) → IsContent c → IsItem (width c.leaf) x → at ≤ length c.items → length (item_bytes (with_item c at x)) ≤ 8177
-    → before + length (packed (width c.leaf) (entry_before c.items at) (drop at c.items)) ≡ length (item_bytes c)
-    → behind ≡ length (rest_packed (width c.leaf) (drop at c.items))
-    → old + behind ≡ length (packed (width c.leaf) (entry_before c.items at) (drop at c.items))
-    → new ≡ packed_item (width c.leaf) (entry_before c.items at) x ++ first_packed (width c.leaf) x.entry (drop at c.items)
+pub insert-changes : (c : Content) (at : ℕ) (x : Item) (before old behind : ℕ) (new : List ℕ) → IsContent c → IsItem (width c.kind) x → at ≤ length c.items → length (item_bytes (with_item c at x)) ≤ 8177
+    → before + length (packed (width c.kind) (entry_before c.items at) (drop at c.items)) ≡ length (item_bytes c)
+    → behind ≡ length (rest_packed (width c.kind) (drop at c.items))
+    → old + behind ≡ length (packed (width c.kind) (entry_before c.items at) (drop at c.items))
+    → new ≡ packed_item (width c.kind) (entry_before c.items at) x ++ first_packed (width c.kind) x.entry (drop at c.items)
     → Changes (patch before old behind new) c (with_item c at x) × (before + length new + behind ≤ 8177)
 unfolding item_bytes
 insert-changes c at x before old behind new is fits h room eb ez eo en =
-    let w : ℕ = width c.leaf in
+    let w : ℕ = width c.kind in
     let p : List ℕ = entry_before c.items at in
     let tail : List Item = drop at c.items in
     let a : List ℕ = bytes_before c at in
@@ -101,7 +103,7 @@ insert-changes c at x before old behind new is fits h room eb ez eo en =
     let all : AllByRecursion (IsItem w) d.items = all-append (IsItem w) (take at c.items) (x ∷ tail) (all-take (IsItem w) at c.items is.items) (fits, all-drop (IsItem w) at c.items is.items) in
     let good : IsContent d = record { key = is.key; first = is.first; items = all; size = room } in
     let from : item_bytes c ≡ a ++ (m ++ z) =
-    ap (λ (l : List Item). first_bytes c.leaf c.first ++ packed w [] l) (sym (take-append-drop at c.items)) ∙ bytes-cut c at tail (m ++ z) h (pieces w p tail) in
+    ap (λ (l : List Item). first_bytes c.kind c.first ++ packed w [] l) (sym (take-append-drop at c.items)) ∙ bytes-cut c at tail (m ++ z) h (pieces w p tail) in
     let into : item_bytes d ≡ a ++ (new ++ z) = bytes-cut c at (x ∷ tail) (new ++ z) h (both-packed w p x tail ∙ ap (λ (l : List ℕ). l ++ z) (sym en)) in
     let na : length a ≡ before = omega (arith, length-bytes_before c at h, eb) in
     let nz : length z ≡ behind = sym ez in
@@ -133,14 +135,14 @@ shorter-without width before y (z ∷ xs) =
 
 -- an item taken from a place
 pub remove-changes : (c : Content) (at : ℕ) (before old behind : ℕ) (new : List ℕ) → IsContent c → at < length c.items
-    → before + length (packed (width c.leaf) (entry_before c.items at) (drop at c.items)) ≡ length (item_bytes c)
-    → behind ≡ length (rest_packed (width c.leaf) (drop (suc at) c.items))
-    → old + behind ≡ length (packed (width c.leaf) (entry_before c.items at) (drop at c.items))
-    → new ≡ first_packed (width c.leaf) (entry_before c.items at) (drop (suc at) c.items)
+    → before + length (packed (width c.kind) (entry_before c.items at) (drop at c.items)) ≡ length (item_bytes c)
+    → behind ≡ length (rest_packed (width c.kind) (drop (suc at) c.items))
+    → old + behind ≡ length (packed (width c.kind) (entry_before c.items at) (drop at c.items))
+    → new ≡ first_packed (width c.kind) (entry_before c.items at) (drop (suc at) c.items)
     → Changes (patch before old behind new) c (without_item c at) × (before + length new + behind ≤ 8177)
 unfolding item_bytes
 remove-changes c at before old behind new is h eb ez eo en =
-    let w : ℕ = width c.leaf in
+    let w : ℕ = width c.kind in
     let p : List ℕ = entry_before c.items at in
     let y : Item = item_at c.items at in
     let tail : List Item = drop (suc at) c.items in
@@ -150,7 +152,7 @@ remove-changes c at before old behind new is h eb ez eo en =
     let d : Content = without_item c at in
     let cut : packed w p (drop at c.items) ≡ m ++ z = ap (packed w p) (drop-at c.items at h) ∙ both-packed w p y tail in
     let from : item_bytes c ≡ a ++ (m ++ z) =
-    ap (λ (l : List Item). first_bytes c.leaf c.first ++ packed w [] l) (sym (take-append-drop at c.items)) ∙ bytes-cut c at (drop at c.items) (m ++ z) (omega arith) cut in
+    ap (λ (l : List Item). first_bytes c.kind c.first ++ packed w [] l) (sym (take-append-drop at c.items)) ∙ bytes-cut c at (drop at c.items) (m ++ z) (omega arith) cut in
     let into : item_bytes d ≡ a ++ (new ++ z) = bytes-cut c at tail (new ++ z) (omega arith) (pieces w p tail ∙ ap (λ (l : List ℕ). l ++ z) (sym en)) in
     let na : length a ≡ before = omega (arith, length-bytes_before c at (omega arith), eb) in
     let nz : length z ≡ behind = sym ez in
@@ -177,11 +179,11 @@ pushed-item width n s old before entry rest to a b c d size es er et ez ea eb ec
     whole ∙ named ∙ simp append_assoc
 
 -- what is left from a place on is no more than all, and what is left behind the item there no more than that
-pub left-sizes : (c : Content) (at size left behind : ℕ) → at ≤ length c.items → size ≡ length (item_bytes c) → left ≡ length (packed (width c.leaf) (entry_before c.items at) (drop at c.items)) → behind ≡ length (rest_packed (width c.leaf) (drop at c.items))
+pub left-sizes : (c : Content) (at size left behind : ℕ) → at ≤ length c.items → size ≡ length (item_bytes c) → left ≡ length (packed (width c.kind) (entry_before c.items at) (drop at c.items)) → behind ≡ length (rest_packed (width c.kind) (drop at c.items))
     → (left ≤ size) × (behind ≤ left)
 left-sizes c at size left behind h es el eb = (
   omega (arith, length-bytes_before c at h, es, el),
-  omega (arith, el, eb, ap length (pieces (width c.leaf) (entry_before c.items at) (drop at c.items)), length-append (first_packed (width c.leaf) (entry_before c.items at) (drop at c.items)) (rest_packed (width c.leaf) (drop at c.items))),
+  omega (arith, el, eb, ap length (pieces (width c.kind) (entry_before c.items at) (drop at c.items)), length-append (first_packed (width c.kind) (entry_before c.items at) (drop at c.items)) (rest_packed (width c.kind) (drop at c.items))),
 )
 
 -- past the last item there is none
@@ -203,31 +205,31 @@ pub rest-at : (width : ℕ) (xs : List Item) (at : ℕ) → at < length xs → r
 unfolding rest_packed
 rest-at width xs at h = ap (rest_packed width) (drop-at xs at h) ∙ ap (λ (k : ℕ). packed width (entry_before xs k) (drop k xs)) (sym (add-one at))
 
-width-le : (leaf : Bool) → width leaf ≤ 5
-width-le true = omega arith
-width-le false = omega arith
+width-le : (kind : Kind) → width kind ≤ 5
+width-le Leaf = omega arith
+width-le Node = omega arith
 
 -- an item takes at most 1008 bytes
-pub item-bytes-le : (leaf : Bool) (before : List ℕ) (x : Item) → length x.entry ≤ 1000 → length (packed_item (width leaf) before x) ≤ 1008
-item-bytes-le leaf before x h = omega (arith, length-packed_item (width leaf) before x, width-le leaf)
+pub item-bytes-le : (kind : Kind) (before : List ℕ) (x : Item) → length x.entry ≤ 1000 → length (packed_item (width kind) before x) ≤ 1008
+item-bytes-le kind before x h = omega (arith, length-packed_item (width kind) before x, width-le kind)
 
-pub first-bytes-le : (leaf : Bool) (entry : List ℕ) (xs : List Item) → AllByRecursion (IsItem (width leaf)) xs → length (first_packed (width leaf) entry xs) ≤ 1008
+pub first-bytes-le : (kind : Kind) (entry : List ℕ) (xs : List Item) → AllByRecursion (IsItem (width kind)) xs → length (first_packed (width kind) entry xs) ≤ 1008
 unfolding first_packed
-first-bytes-le leaf entry [] all = omega arith
-first-bytes-le leaf entry (x ∷ xs) all = item-bytes-le leaf entry x all.0.entry
+first-bytes-le kind entry [] all = omega arith
+first-bytes-le kind entry (x ∷ xs) all = item-bytes-le kind entry x all.0.entry
 
 -- the edits bring the new bytes and their number
 pub patch-bytes : (before old behind : ℕ) (bytes : List ℕ) → sum_by edit_bytes (patch before old behind bytes) ≡ length bytes + 2
 patch-bytes before old behind bytes = omega (arith, length-number 2 (before + length bytes + behind))
 
 -- the bytes of an item put in, and of the one behind it
-pub insert-bytes : (c : Content) (at : ℕ) (x : Item) (new : List ℕ) → IsContent c → length x.entry ≤ 1000 → new ≡ packed_item (width c.leaf) (entry_before c.items at) x ++ first_packed (width c.leaf) x.entry (drop at c.items) → length new ≤ 2016
+pub insert-bytes : (c : Content) (at : ℕ) (x : Item) (new : List ℕ) → IsContent c → length x.entry ≤ 1000 → new ≡ packed_item (width c.kind) (entry_before c.items at) x ++ first_packed (width c.kind) x.entry (drop at c.items) → length new ≤ 2016
 insert-bytes c at x new is fits e =
-    omega (arith, ap length e, length-append (packed_item (width c.leaf) (entry_before c.items at) x) (first_packed (width c.leaf) x.entry (drop at c.items)), item-bytes-le c.leaf (entry_before c.items at) x fits, first-bytes-le c.leaf x.entry (drop at c.items) (all-drop (IsItem (width c.leaf)) at c.items is.items))
+    omega (arith, ap length e, length-append (packed_item (width c.kind) (entry_before c.items at) x) (first_packed (width c.kind) x.entry (drop at c.items)), item-bytes-le c.kind (entry_before c.items at) x fits, first-bytes-le c.kind x.entry (drop at c.items) (all-drop (IsItem (width c.kind)) at c.items is.items))
 
 -- the bytes of the one behind an item taken out
-pub remove-bytes : (c : Content) (at : ℕ) (new : List ℕ) → IsContent c → new ≡ first_packed (width c.leaf) (entry_before c.items at) (drop (suc at) c.items) → length new ≤ 1008
-remove-bytes c at new is e = omega (arith, ap length e, first-bytes-le c.leaf (entry_before c.items at) (drop (suc at) c.items) (all-drop (IsItem (width c.leaf)) (suc at) c.items is.items))
+pub remove-bytes : (c : Content) (at : ℕ) (new : List ℕ) → IsContent c → new ≡ first_packed (width c.kind) (entry_before c.items at) (drop (suc at) c.items) → length new ≤ 1008
+remove-bytes c at new is e = omega (arith, ap length e, first-bytes-le c.kind (entry_before c.items at) (drop (suc at) c.items) (all-drop (IsItem (width c.kind)) (suc at) c.items is.items))
 
 -- a page made into another by a patch, at the sizes that were counted
 pub record Patches (c d : Content) (size left behind : ℕ) (new : List ℕ) (most : ℕ) : Type 0 where
@@ -236,50 +238,40 @@ pub record Patches (c d : Content) (size left behind : ℕ) (new : List ℕ) (mo
   pub new_fits : size - left + length new + behind ≤ 8177
   pub few : length new ≤ most
 
--- an item put in
-pub inserted : (c : Content) (at size left behind w : ℕ) (x : Item) (before start mid new : List ℕ) → IsContent c → IsItem (width c.leaf) x → at ≤ length c.items → length (item_bytes (with_item c at x)) ≤ 8177
-    → size ≡ length (item_bytes c) → left ≡ length (packed (width c.leaf) (entry_before c.items at) (drop at c.items)) → behind ≡ length (rest_packed (width c.leaf) (drop at c.items))
-    → w ≡ width c.leaf → before ≡ entry_before c.items at → start ≡ [] → mid ≡ start ++ packed_item w before x → new ≡ mid ++ first_packed (width c.leaf) x.entry (drop at c.items)
-    → Patches c (with_item c at x) size left behind new 2016
-inserted c at size left behind w x before start mid new is fits h room es el eb ew ep e0 em en =
-    let sizes = left-sizes c at size left behind h es el eb in
-    let mid_is : mid ≡ packed_item (width c.leaf) (entry_before c.items at) x = em ∙ (λ i. e0 i ++ packed_item (ew i) (ep i) x) in
-    let new_is : new ≡ packed_item (width c.leaf) (entry_before c.items at) x ++ first_packed (width c.leaf) x.entry (drop at c.items) = en ∙ ap (λ (l : List ℕ). l ++ first_packed (width c.leaf) x.entry (drop at c.items)) mid_is in
-    let whole : size - left + length (packed (width c.leaf) (entry_before c.items at) (drop at c.items)) ≡ length (item_bytes c) = omega (arith, sizes.0, es, el) in
-    let part : left - behind + behind ≡ length (packed (width c.leaf) (entry_before c.items at) (drop at c.items)) = omega (arith, sizes.1, el) in
-    let done = insert-changes c at x (size - left) (left - behind) behind new is fits h room whole eb part new_is in
-    record { changes = done.0; old_fits = omega (arith, sizes.0, sizes.1, es, is.size); new_fits = done.1; few = insert-bytes c at x new is fits.entry new_is }
-
 -- what is left behind the next place is no more than what is left from a place on
-pub behind-next : (c : Content) (at left behind : ℕ) → at < length c.items → left ≡ length (packed (width c.leaf) (entry_before c.items at) (drop at c.items)) → behind ≡ length (rest_packed (width c.leaf) (drop (at + 1) c.items)) → behind ≤ left
+pub behind-next : (c : Content) (at left behind : ℕ) → at < length c.items → left ≡ length (packed (width c.kind) (entry_before c.items at) (drop at c.items)) → behind ≡ length (rest_packed (width c.kind) (drop (at + 1) c.items)) → behind ≤ left
 unfolding packed
 behind-next c at left behind h el eb =
     let tail : List Item = drop (suc at) c.items in
     let y : Item = item_at c.items at in
-    let cut : packed (width c.leaf) (entry_before c.items at) (drop at c.items) ≡ packed_item (width c.leaf) (entry_before c.items at) y ++ packed (width c.leaf) y.entry tail = ap (packed (width c.leaf) (entry_before c.items at)) (drop-at c.items at h) in
-    omega (arith, el, ap length cut, length-append (packed_item (width c.leaf) (entry_before c.items at) y) (packed (width c.leaf) y.entry tail), ap length (pieces (width c.leaf) y.entry tail), length-append (first_packed (width c.leaf) y.entry tail) (rest_packed (width c.leaf) tail), eb ∙ ap (λ (n : ℕ). length (rest_packed (width c.leaf) (drop n c.items))) (add-one at))
+    let cut : packed (width c.kind) (entry_before c.items at) (drop at c.items) ≡ packed_item (width c.kind) (entry_before c.items at) y ++ packed (width c.kind) y.entry tail = ap (packed (width c.kind) (entry_before c.items at)) (drop-at c.items at h) in
+    omega (arith, el, ap length cut, length-append (packed_item (width c.kind) (entry_before c.items at) y) (packed (width c.kind) y.entry tail), ap length (pieces (width c.kind) y.entry tail), length-append (first_packed (width c.kind) y.entry tail) (rest_packed (width c.kind) tail), eb ∙ ap (λ (n : ℕ). length (rest_packed (width c.kind) (drop n c.items))) (add-one at))
 
 -- an item taken out
 pub removed : (c : Content) (at size left behind : ℕ) (before start new : List ℕ) → IsContent c → at < length c.items
-    → size ≡ length (item_bytes c) → left ≡ length (packed (width c.leaf) (entry_before c.items at) (drop at c.items)) → behind ≡ length (rest_packed (width c.leaf) (drop (at + 1) c.items))
-    → before ≡ entry_before c.items at → start ≡ [] → new ≡ start ++ first_packed (width c.leaf) before (drop (at + 1) c.items)
+    → size ≡ length (item_bytes c) → left ≡ length (packed (width c.kind) (entry_before c.items at) (drop at c.items)) → behind ≡ length (rest_packed (width c.kind) (drop (at + 1) c.items))
+    → before ≡ entry_before c.items at → start ≡ [] → new ≡ start ++ first_packed (width c.kind) before (drop (at + 1) c.items)
     → Patches c (without_item c at) size left behind new 1008
 removed c at size left behind before start new is h es el eb ep e0 en =
-    let behind_is : behind ≡ length (rest_packed (width c.leaf) (drop (suc at) c.items)) = eb ∙ ap (λ (n : ℕ). length (rest_packed (width c.leaf) (drop n c.items))) (add-one at) in
-    let new_is : new ≡ first_packed (width c.leaf) (entry_before c.items at) (drop (suc at) c.items) = en ∙ (λ i. e0 i ++ first_packed (width c.leaf) (ep i) (drop (add-one at i) c.items)) in
+    let behind_is : behind ≡ length (rest_packed (width c.kind) (drop (suc at) c.items)) = eb ∙ ap (λ (n : ℕ). length (rest_packed (width c.kind) (drop n c.items))) (add-one at) in
+    let new_is : new ≡ first_packed (width c.kind) (entry_before c.items at) (drop (suc at) c.items) = en ∙ (λ i. e0 i ++ first_packed (width c.kind) (ep i) (drop (add-one at i) c.items)) in
     let low : left ≤ size = omega (arith, length-bytes_before c at (omega arith), es, el) in
     let inner : behind ≤ left = behind-next c at left behind h el eb in
-    let whole : size - left + length (packed (width c.leaf) (entry_before c.items at) (drop at c.items)) ≡ length (item_bytes c) = omega (arith, low, es, el) in
-    let part : left - behind + behind ≡ length (packed (width c.leaf) (entry_before c.items at) (drop at c.items)) = omega (arith, inner, el) in
+    let whole : size - left + length (packed (width c.kind) (entry_before c.items at) (drop at c.items)) ≡ length (item_bytes c) = omega (arith, low, es, el) in
+    let part : left - behind + behind ≡ length (packed (width c.kind) (entry_before c.items at) (drop at c.items)) = omega (arith, inner, el) in
     let done = remove-changes c at (size - left) (left - behind) behind new is h whole behind_is part new_is in
     record { changes = done.0; old_fits = omega (arith, low, inner, es, is.size); new_fits = done.1; few = remove-bytes c at new is new_is }
 
+-- what those edits bring
+pub removed-brings : (c : Content) (at : ℕ) (before start new : List ℕ) → before ≡ entry_before c.items at → start ≡ [] → new ≡ start ++ first_packed (width c.kind) before (drop (at + 1) c.items) → length new + 2 ≡ removed_bytes c at
+removed-brings c at before start new ep e0 en = ap (λ (l : List ℕ). length l + 2) (en ∙ (λ i. e0 i ++ first_packed (width c.kind) (ep i) (drop (at + 1) c.items)))
+
 -- the size of a page with one more item
-with-size : (c : Content) (at : ℕ) (x : Item) → at ≤ length c.items
-    → length (item_bytes (with_item c at x)) + length (first_packed (width c.leaf) (entry_before c.items at) (drop at c.items)) ≡ length (item_bytes c) + length (packed_item (width c.leaf) (entry_before c.items at) x) + length (first_packed (width c.leaf) x.entry (drop at c.items))
+pub with-size : (c : Content) (at : ℕ) (x : Item) → at ≤ length c.items
+    → length (item_bytes (with_item c at x)) + length (first_packed (width c.kind) (entry_before c.items at) (drop at c.items)) ≡ length (item_bytes c) + length (packed_item (width c.kind) (entry_before c.items at) x) + length (first_packed (width c.kind) x.entry (drop at c.items))
 unfolding item_bytes
 with-size c at x h =
-    let w : ℕ = width c.leaf in
+    let w : ℕ = width c.kind in
     let p : List ℕ = entry_before c.items at in
     let tail : List Item = drop at c.items in
     let a : List ℕ = bytes_before c at in
@@ -288,22 +280,57 @@ with-size c at x h =
     let one : List ℕ = packed_item w p x in
     let two : List ℕ = first_packed w x.entry tail in
     let from : item_bytes c ≡ a ++ (m ++ z) =
-    ap (λ (l : List Item). first_bytes c.leaf c.first ++ packed w [] l) (sym (take-append-drop at c.items)) ∙ bytes-cut c at tail (m ++ z) h (pieces w p tail) in
+    ap (λ (l : List Item). first_bytes c.kind c.first ++ packed w [] l) (sym (take-append-drop at c.items)) ∙ bytes-cut c at tail (m ++ z) h (pieces w p tail) in
     let into : item_bytes (with_item c at x) ≡ a ++ ((one ++ two) ++ z) = bytes-cut c at (x ∷ tail) ((one ++ two) ++ z) h (both-packed w p x tail) in
     omega (arith, ap length from, ap length into, length-append a (m ++ z), length-append m z, length-append a ((one ++ two) ++ z), length-append (one ++ two) z, length-append one two)
 
+-- an item put in, at the sizes that were counted
+pub record Inserts (c : Content) (at : ℕ) (x : Item) (size : ℕ) (new rest behind : List ℕ) : Type 0 where
+  pub low : length rest ≤ size
+  pub inner : length behind ≤ length rest
+  pub size_is : size - length rest + length new + length behind ≡ length (item_bytes (with_item c at x))
+  pub old_fits : size - length rest + (length rest - length behind) + length behind ≤ 8177
+  pub brings : length new + 2 ≡ inserted_bytes c at x
+  pub few : length new ≤ 2016
+  pub changes : length (item_bytes (with_item c at x)) ≤ 8177 → Changes (patch (size - length rest) (length rest - length behind) (length behind) new) c (with_item c at x)
+
+pub inserts : (c : Content) (at size w : ℕ) (x : Item) (before start mid new rest behind : List ℕ) → IsContent c → IsItem (width c.kind) x → size ≡ length (item_bytes c) → IsLeft (width c.kind) c.items at rest → behind ≡ rest_packed (width c.kind) (drop at c.items)
+    → w ≡ width c.kind → before ≡ entry_before c.items at → start ≡ [] → mid ≡ start ++ packed_item w before x → new ≡ mid ++ first_packed (width c.kind) x.entry (drop at c.items) → Inserts c at x size new rest behind
+inserts c at size w x before start mid new rest behind is fits es left eb ew ep e0 em en =
+    let k : ℕ = width c.kind in
+    let tail : List Item = drop at c.items in
+    let p : List ℕ = entry_before c.items at in
+    let one : List ℕ = packed_item k p x in
+    let two : List ℕ = first_packed k x.entry tail in
+    let el : length rest ≡ length (packed k p tail) = ap length left.is in
+    let ez : length behind ≡ length (rest_packed k tail) = ap length eb in
+    let sizes = left-sizes c at size (length rest) (length behind) left.within es el ez in
+    let mid_is : mid ≡ one = em ∙ (λ i. e0 i ++ packed_item (ew i) (ep i) x) in
+    let new_is : new ≡ one ++ two = en ∙ ap (λ (l : List ℕ). l ++ two) mid_is in
+    let whole : size - length rest + length (packed k p tail) ≡ length (item_bytes c) = omega (arith, sizes.0, es, el) in
+    let part : length rest - length behind + length behind ≡ length (packed k p tail) = omega (arith, sizes.1, el) in
+    record {
+      low = sizes.0;
+      inner = sizes.1;
+      size_is = omega (arith, with-size c at x left.within, es, el, ez, ap length (pieces k p tail), length-append (first_packed k p tail) (rest_packed k tail), ap length new_is, length-append one two, sizes.0, sizes.1);
+      old_fits = omega (arith, sizes.0, sizes.1, es, is.size);
+      brings = omega (arith, ap length new_is, length-append one two);
+      few = insert-bytes c at x new is fits.entry new_is;
+      changes = λ room. (insert-changes c at x (size - length rest) (length rest - length behind) (length behind) new is fits left.within room whole ez part new_is).0;
+    }
+
 -- behind the last one
-pub grown-none : (c : Content) (at n : ℕ) (x : Item) → at ≡ length c.items → n ≡ shared (entry_before c.items at) x.entry → length (item_bytes (with_item c at x)) + n ≡ length (item_bytes c) + 3 + width c.leaf + length x.entry
+pub grown-none : (c : Content) (at n : ℕ) (x : Item) → at ≡ length c.items → n ≡ shared (entry_before c.items at) x.entry → length (item_bytes (with_item c at x)) + n ≡ length (item_bytes c) + 3 + width c.kind + length x.entry
 grown-none c at n x h en =
-    let one = ap length (first-none (width c.leaf) (entry_before c.items at) c.items at (omega (arith, h))) in
-    let two = ap length (first-none (width c.leaf) x.entry c.items at (omega (arith, h))) in
-    omega (arith, with-size c at x (omega (arith, h)), one, two, length-packed_item (width c.leaf) (entry_before c.items at) x, en)
+    let one = ap length (first-none (width c.kind) (entry_before c.items at) c.items at (omega (arith, h))) in
+    let two = ap length (first-none (width c.kind) x.entry c.items at (omega (arith, h))) in
+    omega (arith, with-size c at x (omega (arith, h)), one, two, length-packed_item (width c.kind) (entry_before c.items at) x, en)
 
 -- before another one
 pub grown-some : (c : Content) (at n k s : ℕ) (x : Item) → at < length c.items → n ≡ shared (entry_before c.items at) x.entry → k ≡ shared x.entry (item_at c.items at).entry → s ≡ shared (entry_before c.items at) (item_at c.items at).entry
-    → length (item_bytes (with_item c at x)) + n + k ≡ length (item_bytes c) + 3 + width c.leaf + length x.entry + s
+    → length (item_bytes (with_item c at x)) + n + k ≡ length (item_bytes c) + 3 + width c.kind + length x.entry + s
 grown-some c at n k s x h en ek es =
     let y : Item = item_at c.items at in
-    let one = ap length (first-at (width c.leaf) (entry_before c.items at) c.items at h) in
-    let two = ap length (first-at (width c.leaf) x.entry c.items at h) in
-    omega (arith, with-size c at x (omega arith), one, two, length-packed_item (width c.leaf) (entry_before c.items at) x, length-packed_item (width c.leaf) (entry_before c.items at) y, length-packed_item (width c.leaf) x.entry y, en, ek, es)
+    let one = ap length (first-at (width c.kind) (entry_before c.items at) c.items at h) in
+    let two = ap length (first-at (width c.kind) x.entry c.items at h) in
+    omega (arith, with-size c at x (omega arith), one, two, length-packed_item (width c.kind) (entry_before c.items at) x, length-packed_item (width c.kind) (entry_before c.items at) y, length-packed_item (width c.kind) x.entry y, en, ek, es)

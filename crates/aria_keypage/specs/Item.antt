@@ -3,15 +3,16 @@ use Rattle.std.specs.Prelude.{◌≡◌, ℕ, zero, suc, ◌≤◌, ◌<◌, ◌
 use Rattle.std.specs.List.{prefix_len}
 use Rattle.std.specs.Ordering.{nat_cmp, is_lt}
 use Rattle.std.specs.Cmp.Lexicographic.{slice_cmp}
+use Rattle.aria_keypage.specs.declared.item.TheConstants.{ENTRY_MAX}
 
 -- an entry with a row's target in a leaf, or with a child page in a node
 pub record Item : Type 0 where
   pub entry : List ℕ
   pub to : ℕ
 
--- what can be stored: an entry of at most 1000 bytes, and a number of the given width in bytes
+-- what can be stored: an entry that is not too long, and a number of the given width in bytes
 pub record IsItem (width : ℕ) (x : Item) : Type 0 where
-  pub entry : length x.entry ≤ 1000
+  pub entry : length x.entry ≤ ENTRY_MAX
   pub to : x.to < 256 ^ width
 
 -- the item at a place, from 0 on

@@ -1,9 +1,9 @@
 pub mod Item
 pub mod Packed
 pub mod Pieces
-pub mod Raw
+pub mod StoredItem
 pub mod Content
 pub mod Reading
 pub mod Change
-pub mod Pair
-pub mod Halves
+pub mod Merge
+pub mod Split

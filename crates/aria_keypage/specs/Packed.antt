@@ -2,15 +2,16 @@
 use Rattle.std.specs.Prelude.{◌≡◌, ℕ, ◌≤◌, min, ◌==◌, List, [], ◌∷◌, ◌++◌, length, drop}
 use Rattle.std.specs.List.{AllByRecursion, common_prefix_len}
 use Rattle.aria_page.specs.Number.{number}
+use Rattle.aria_keypage.specs.declared.entry.TheConstants.{SHARED_MAX}
 use Rattle.aria_keypage.specs.Item.{Item, IsItem, entry_before}
 
 -- how many leading bytes two entries have in common
 abbrev pub common : List ℕ → List ℕ → ℕ
 common a b = common_prefix_len ◌==◌ a b
 
--- how many leading bytes an entry takes from the one before it: all that both have in common, but at most 255
+-- how many leading bytes an entry takes from the one before it: all that both have in common, but at most so many as one byte counts
 unfoldable pub shared : List ℕ → List ℕ → ℕ
-shared before entry = min 255 (common before entry)
+shared before entry = min SHARED_MAX (common before entry)
 
 -- 1 byte of how many bytes are shared, 2 of the length of the rest, the rest, and where the item leads
 unfoldable pub packed_item : ℕ → List ℕ → Item → List ℕ

@@ -6,8 +6,8 @@ ghost use Rattle.std.specs.Cmp.Lexicographic.{slice_cmp};
 ghost use Rattle.aria_keypage.specs.Item.{Item, entry_before, is_below, IsPlace};
 ghost use Rattle.aria_keypage.specs.Packed.{common, ArePacked, IsLeft};
 
-use crate::order::compare;
-use crate::raw::{Raw, raw_at};
+use crate::entry::compare;
+use crate::item::{StoredItem, stored_at};
 use aria_page::bytes_from;
 use std::cmp::Ordering;
 
@@ -15,17 +15,17 @@ use std::cmp::Ordering;
 //
 // What the entry before and the sought one have in common is `met`. An item that shares more than that
 // with the entry before differs from the sought one in the same byte, and isn't looked at.
-pub(crate) fn against(met: usize, raw: &Raw<'_>, entry: &[u8]) -> (usize, Ordering)
+pub(crate) fn against(met: usize, item: &StoredItem<'_>, entry: &[u8]) -> (usize, Ordering)
     requires { met ≤ length entry.now }
     ensures within { result.0 ≤ length entry.now }
-    ensures common { (before there : List ℕ) → met ≡ common before entry.now → raw.now.shared ≤ common before there → raw.now.rest.now ≡ drop raw.now.shared there → result.0 ≡ common there entry.now }
-    ensures order { (before there : List ℕ) → met ≡ common before entry.now → (met < length before → is_below before entry.now ≡ true) → raw.now.shared ≤ common before there → raw.now.rest.now ≡ drop raw.now.shared there → result.1 ≡ slice_cmp nat_cmp there entry.now }
+    ensures common { (before there : List ℕ) → met ≡ common before entry.now → item.now.shared ≤ common before there → item.now.rest.now ≡ drop item.now.shared there → result.0 ≡ common there entry.now }
+    ensures order { (before there : List ℕ) → met ≡ common before entry.now → (met < length before → is_below before entry.now ≡ true) → item.now.shared ≤ common before there → item.now.rest.now ≡ drop item.now.shared there → result.1 ≡ slice_cmp nat_cmp there entry.now }
 {
-    let shared = raw.shared as usize;
+    let shared = item.shared as usize;
     if shared > met {
         return (met, Ordering::Less);
     }
-    let (same, order) = compare(raw.rest, bytes_from(entry, shared));
+    let (same, order) = compare(item.rest, bytes_from(entry, shared));
     (shared + same, order)
 }
 
@@ -36,10 +36,10 @@ pub(crate) fn find_in(items: &[u8], width: usize, count: usize, entry: &[u8]) ->
     let mut rest = items;
     let mut met = 0;
     for at in 0..count {
-        let Some((raw, behind)) = raw_at(rest, width) else {
+        let Some((item, behind)) = stored_at(rest, width) else {
             return (at, false);
         };
-        let (same, order) = against(met, &raw, entry);
+        let (same, order) = against(met, &item, entry);
         match order {
             Ordering::Less => {}
             Ordering::Equal => return (at, true),
@@ -65,10 +65,10 @@ pub(crate) fn met_at<'b>(
     let mut rest = items;
     let mut met = 0;
     for at in 0..count {
-        let Some((raw, behind)) = raw_at(rest, width) else {
+        let Some((item, behind)) = stored_at(rest, width) else {
             return (met, rest);
         };
-        let (same, _) = against(met, &raw, entry);
+        let (same, _) = against(met, &item, entry);
         met = same;
         rest = behind;
     }

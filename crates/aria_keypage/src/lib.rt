@@ -1,11 +1,11 @@
 //! Key pages: the leaves and the nodes of a key's tree, whose items share prefixes (docs/FORMATS.md).
 //!
 //! `KeyPage` is a view of a page, borrowed and checked once by `view`. Contracts see it as its `Content`:
-//! whether it is a leaf, the number of its key, a node's first child, and the items in their order, each
+//! its kind, the number of its key, a node's first child, and the items in their order, each
 //! an entry and where it leads. A page spells one content at most.
 //!
 //! The readers and `find` tell of that list. `find` takes no memory and puts no entry together. `insert`
-//! and `remove` give edits that make any page of the old list into one of the changed list, and `join` those
+//! and `remove` walk the page once, and give edits that make any page of the old list into one of the changed list, and `join` those
 //! that make it take over the items of the page to its right. `split` divides the items of a page in the
 //! middle of their bytes, and `share` those of two pages side by side: a `Split` is the edits of the left page,
 //! the body of the right one and the entry between them. `root_leaf` and `root_node` give whole bodies.
@@ -14,22 +14,24 @@
 //! item bytes.
 #![tactic(auto)]
 
-mod change;
-mod count;
+mod edit;
+mod entry;
 mod find;
-mod halves;
+mod insert;
+mod item;
 mod key_page;
-mod order;
-mod pair;
-mod raw;
+mod kind;
+mod merge;
+mod remove;
 mod root;
-mod steps;
+mod split;
+mod walk;
 
-pub use change::FULL;
-pub use halves::Split;
-pub use key_page::{KeyPage, LEAF, LOW, NODE};
-pub use raw::ENTRY_MAX;
+pub use item::ENTRY_MAX;
+pub use key_page::{ITEM_BYTES_LOW, ITEM_BYTES_MAX, KeyPage};
+pub use kind::{Kind, LEAF, NODE};
 pub use root::{root_leaf, root_node};
+pub use split::Split;
 
 #[cfg(test)]
 mod tests;

@@ -30,7 +30,7 @@ const SHARING: &[u8] = &[
 fn an_item_shares_all_leading_bytes_with_the_one_before(rt: HostRuntime) -> Result<(), Fail> {
     let page = page_of(SHARING);
     let view = KeyPage::view(&page).ok_or("a leaf")?;
-    assert!(rt; view.is_leaf() && view.is_low() && view.count() == 2);
+    assert!(rt; view.kind() == Kind::Leaf && view.is_low() && view.count() == 2);
     let less = page_of(&[
         10, 0, 0, 21, 0, 0, 3, 1, 0x61, 0x62, 0, 0, 0, 1, 0, 1, 0, 2, 0x61, 0x63, 0, 0, 0, 1, 1,
     ]);
@@ -56,10 +56,15 @@ fn items_are_put_in_and_taken_out(rt: HostRuntime) -> Result<(), Fail> {
     let body = root_leaf(rt.alloc(), 0, &[1, 0x61, 0x62], 256)?;
     let mut page = page_of(body.as_slice());
     let view = KeyPage::view(&page).ok_or("a leaf")?;
-    if view.count() != 1 || !view.is_leaf() || !view.has_room(1, &[1, 0x61, 0x63]) {
+    let Kind::Leaf = view.kind() else {
+        return Err("a leaf".into());
+    };
+    if view.count() != 1 || !view.has_room(1, &[1, 0x61, 0x63]) {
         return Err("room for one more".into());
     }
-    let edits = view.insert(rt.alloc(), 1, &[1, 0x61, 0x63], 257)?;
+    let edits = view
+        .insert(rt.alloc(), 1, &[1, 0x61, 0x63], 257)?
+        .ok_or("room")?;
     assert!(rt; apply_all(&edits, &mut page));
     assert!(rt; page.body().starts_with(SHARING));
     let view = KeyPage::view(&page).ok_or("a leaf")?;
@@ -83,7 +88,10 @@ fn a_node_has_a_child_more_than_entries(rt: HostRuntime) -> Result<(), Fail> {
     let body = root_node(rt.alloc(), 3, 7, &[5], 9)?;
     let page = page_of(body.as_slice());
     let view = KeyPage::view(&page).ok_or("a node")?;
-    if view.is_leaf() || view.count() != 1 {
+    let Kind::Node = view.kind() else {
+        return Err("a node".into());
+    };
+    if view.count() != 1 {
         return Err("a node with an item".into());
     }
     assert_eq!(rt; (view.first_child(), view.target_at(0)), (7, 9));
@@ -118,8 +126,11 @@ fn two_leaves_are_shared_where_they_do_not_fit_in_one(rt: HostRuntime) -> Result
     let next = page_of(front.as_slice());
     let left = KeyPage::view(&page).ok_or("a leaf")?;
     let right = KeyPage::view(&next).ok_or("a leaf")?;
-    if !left.is_leaf() || !right.is_leaf() || !left.is_low() {
-        return Err("two leaves, the left one low".into());
+    let (Kind::Leaf, Kind::Leaf) = (left.kind(), right.kind()) else {
+        return Err("two leaves".into());
+    };
+    if !left.is_low() {
+        return Err("a low page".into());
     }
     if left.fits(&right, &[3]) {
         return Err("they fit in one".into());
@@ -142,8 +153,11 @@ fn two_leaves_are_joined_where_they_fit_in_one(rt: HostRuntime) -> Result<(), Fa
     let next = page_of(front.as_slice());
     let left = KeyPage::view(&page).ok_or("a leaf")?;
     let right = KeyPage::view(&next).ok_or("a leaf")?;
-    if !left.is_leaf() || !right.is_leaf() || !left.fits(&right, &[3]) {
-        return Err("two leaves that fit in one".into());
+    let (Kind::Leaf, Kind::Leaf) = (left.kind(), right.kind()) else {
+        return Err("two leaves".into());
+    };
+    if !left.fits(&right, &[3]) {
+        return Err("they fit in one".into());
     }
     let edits = left.join(rt.alloc(), &right, &[3])?;
     assert!(rt; apply_all(&edits, &mut page));

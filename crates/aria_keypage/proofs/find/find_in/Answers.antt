@@ -1,7 +1,7 @@
 use Rattle.std.proofs.Common.{◌∙◌, ◌<◌, sym, arith, length}
 use Rattle.aria_keypage.specs.Item.{item_at, entry_before}
-use Rattle.aria_keypage.specs.Raw.{Raw}
-use Rattle.aria_keypage.proofs.Walk.{left-more, left-read}
+use Rattle.aria_keypage.specs.StoredItem.{StoredItem}
+use Rattle.aria_keypage.proofs.Left.{left-more, left-read}
 use Rattle.aria_keypage.proofs.Sought.{read-shares, sought-none, sought-more, sought-found, sought-passed}
 use Rattle.aria_keypage.proofs.find.find_in.Goals as goal
 
@@ -13,7 +13,7 @@ pub returns-in-Equal : goal.returns-in-Equal
 returns-in-Equal c xs is e =
     let h = c.loop-at.invariant.sought xs is e in
     let low : c.loop-at.at < length xs = omega arith in
-    let r : Raw = record { shared = c.in-Some.raw.shared; rest = c.in-Some.raw.rest.now; to = c.in-Some.raw.to.now } in
+    let r : StoredItem = record { shared = c.in-Some.item.shared; rest = c.in-Some.item.rest.now; to = c.in-Some.item.to.now } in
     let read = read-shares c.args.width xs c.loop-at.at r (left-more c.args.width xs c.loop-at.at c.loop-at.rest.now (r, c.in-Some.behind.now) is.all h.left c.in-Some.ensures low).0 in
     sought-found c.args.width xs c.args.entry.now c.loop-at.at c.loop-at.rest.now c.loop-at.met h low
     (sym (c.against-same.ensures.order (entry_before xs c.loop-at.at) (item_at xs c.loop-at.at).entry h.met_is h.below read.0 read.1) ∙ c.in-Equal.is)
@@ -22,7 +22,7 @@ pub returns-in-Greater : goal.returns-in-Greater
 returns-in-Greater c xs is e =
     let h = c.loop-at.invariant.sought xs is e in
     let low : c.loop-at.at < length xs = omega arith in
-    let r : Raw = record { shared = c.in-Some.raw.shared; rest = c.in-Some.raw.rest.now; to = c.in-Some.raw.to.now } in
+    let r : StoredItem = record { shared = c.in-Some.item.shared; rest = c.in-Some.item.rest.now; to = c.in-Some.item.to.now } in
     let read = read-shares c.args.width xs c.loop-at.at r (left-more c.args.width xs c.loop-at.at c.loop-at.rest.now (r, c.in-Some.behind.now) is.all h.left c.in-Some.ensures low).0 in
     sought-passed c.args.width xs c.args.entry.now c.loop-at.at c.loop-at.rest.now c.loop-at.met h low
     (sym (c.against-same.ensures.order (entry_before xs c.loop-at.at) (item_at xs c.loop-at.at).entry h.met_is h.below read.0 read.1) ∙ c.in-Greater.is)
@@ -37,7 +37,7 @@ loop-at-preserved c =
       sought = λ xs is e.
           let h = c.loop-at.invariant.sought xs is e in
           let low : c.loop-at.at < length xs = omega arith in
-          let r : Raw = record { shared = c.in-Some.raw.shared; rest = c.in-Some.raw.rest.now; to = c.in-Some.raw.to.now } in
+          let r : StoredItem = record { shared = c.in-Some.item.shared; rest = c.in-Some.item.rest.now; to = c.in-Some.item.to.now } in
           let more = left-more c.args.width xs c.loop-at.at c.loop-at.rest.now (r, c.in-Some.behind.now) is.all h.left c.in-Some.ensures low in
           let read = read-shares c.args.width xs c.loop-at.at r more.0 in
           sought-more c.args.width xs c.args.entry.now c.loop-at.at c.loop-at.rest.now c.in-Some.behind.now c.loop-at.met c.against-same.result.0 h low more.1

@@ -1,8 +1,8 @@
 use Rattle.std.proofs.Common.{◌≡◌, ◌∙◌, ◌<◌, ◌+◌, ap, sym, arith, length, List, ℕ, refl, add-one}
 use Rattle.aria_keypage.specs.Item.{item_at, entry_before}
 use Rattle.aria_keypage.specs.Packed.{common}
-use Rattle.aria_keypage.specs.Raw.{Raw}
-use Rattle.aria_keypage.proofs.Walk.{left-all, left-more, left-read}
+use Rattle.aria_keypage.specs.StoredItem.{StoredItem}
+use Rattle.aria_keypage.proofs.Left.{left-all, left-more, left-read}
 use Rattle.aria_keypage.proofs.Sought.{read-shares}
 use Rattle.aria_keypage.proofs.find.met_at.Goals as goal
 
@@ -22,7 +22,7 @@ loop-at-preserved c =
       there = λ xs is h.
           let inv = c.loop-at.invariant.there xs is h in
           let low : c.loop-at.at < length xs = omega arith in
-          let r : Raw = record { shared = c.in-Some.raw.shared; rest = c.in-Some.raw.rest.now; to = c.in-Some.raw.to.now } in
+          let r : StoredItem = record { shared = c.in-Some.item.shared; rest = c.in-Some.item.rest.now; to = c.in-Some.item.to.now } in
           let more = left-more c.args.width xs c.loop-at.at c.loop-at.rest.now (r, c.in-Some.behind.now) is.all inv.0 c.in-Some.ensures low in
           let read = read-shares c.args.width xs c.loop-at.at r more.0 in
           let next : entry_before xs (c.loop-at.at + 1) ≡ (item_at xs c.loop-at.at).entry = ap (entry_before xs) (add-one c.loop-at.at) in

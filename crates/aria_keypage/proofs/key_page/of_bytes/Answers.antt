@@ -1,32 +1,15 @@
-use Rattle.std.proofs.Common.{◌∙◌, ap, sym, arith, length}
-use Rattle.std.proofs.lemmas.List.{length-append}
-use Rattle.aria_page.specs.Field.{AreBytes}
-use Rattle.aria_page.specs.Number.{number}
-use Rattle.aria_page.proofs.Numbers.{number_takes}
-use Rattle.aria_keypage.proofs.Options.{some-map, none-map, none-any}
-use Rattle.aria_keypage.proofs.Read.{leaf-bytes, no_node, no_items, page-node}
+use Rattle.std.proofs.Common.{◌∙◌, refl}
+use Rattle.aria_keypage.proofs.Options.{some-map, none-map}
+use Rattle.aria_keypage.proofs.Read.{leaf-bytes, page-node}
 use Rattle.aria_keypage.proofs.key_page.of_bytes.Goals as goal
 
-pub returns-then-leaf-clause-none : goal.returns-then-leaf-clause-none
-returns-then-leaf-clause-none c =
-    none-map c.of_items.result _ _ (λ none d is e eb. none d.items (leaf-bytes d c.args.bytes.now is (e ∙ c.if-leaf.true) eb)) c.of_items.ensures.none
+pub returns-in-Leaf-clause-none : goal.returns-in-Leaf-clause-none
+returns-in-Leaf-clause-none c =
+    none-map c.of_items.result _ _ (λ none d is e eb. none d.items (leaf-bytes d c.args.bytes.now is (e ∙ c.in-Leaf.is) eb)) c.of_items.ensures.none
 
-pub returns-in_err-first-clause-none : goal.returns-in_err-first-clause-none
-returns-in_err-first-clause-none c =
-    none-any c.from_residual.result _ (λ d is e eb. no_node d c.args.bytes.now is (e ∙ c.if-leaf.false) eb c.in_err-first.ensures)
+pub returns-in-Node-clause-found : goal.returns-in-Node-clause-found
+returns-in-Node-clause-found c = some-map c.of_node.result _ _ (λ p is. page-node c.args.kind c.args.key c.args.bytes.now c.args.bytes.now p c.in-Node.is refl is) c.of_node.ensures.found
 
-pub of_items-requires-2-clause-size : goal.of_items-requires-2-clause-size
-of_items-requires-2-clause-size c =
-    let are : AreBytes c.args.bytes.now = λ i. omega (arith, c.type_inv.bytes i) in
-    let there = number_takes 4 c.args.bytes.now (c.in_ok-first.first, c.in_ok-first.items.now) are c.in_ok-first.ensures in
-    omega (arith, c.requires, ap length there.0.parts, length-append (number 4 c.in_ok-first.first) c.in_ok-first.items.now)
-
-pub returns-clause-found : goal.returns-clause-found
-returns-clause-found c =
-    let are : AreBytes c.args.bytes.now = λ i. omega (arith, c.type_inv.bytes i) in
-    let there = number_takes 4 c.args.bytes.now (c.in_ok-first.first, c.in_ok-first.items.now) are c.in_ok-first.ensures in
-    some-map c.of_items-2.result _ _ (λ p is. page-node c.args.leaf c.args.key _ c.args.bytes.now p c.if-leaf.false (sym there.0.parts) is) c.of_items-2.ensures.found
-
-pub returns-clause-none : goal.returns-clause-none
-returns-clause-none c =
-    none-map c.of_items-2.result _ _ (λ none d is e eb. no_items d c.args.bytes.now c.in_ok-first.items.now c.in_ok-first.first is (e ∙ c.if-leaf.false) eb c.in_ok-first.ensures none) c.of_items-2.ensures.none
+pub returns-in-Node-clause-none : goal.returns-in-Node-clause-none
+returns-in-Node-clause-none c =
+    none-map c.of_node.result _ _ (λ none d is e eb. none d is (e ∙ c.in-Node.is) eb) c.of_node.ensures.none

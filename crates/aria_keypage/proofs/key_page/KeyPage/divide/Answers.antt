@@ -1,7 +1,8 @@
-use Rattle.std.proofs.Common.{◌≡◌, ◌∙◌, ◌+◌, sym, ap, subst, arith, length, ℕ, Bool, refl}
+use Rattle.std.proofs.Common.{◌≡◌, ◌∙◌, ◌+◌, sym, ap, subst, arith, length, ℕ, refl}
+use Rattle.aria_keypage.specs.declared.kind.Kind.{Kind}
 use Rattle.aria_keypage.specs.Packed.{ArePacked, IsLeft}
 use Rattle.aria_keypage.specs.Content.{Content, IsContent, item_bytes, width}
-use Rattle.aria_keypage.specs.Halves.{holding, left_half, IsMiddle}
+use Rattle.aria_keypage.specs.Split.{holding, left_half, IsMiddle}
 use Rattle.aria_keypage.proofs.Divided.{holding-size, own-size, cut, divides}
 use Rattle.aria_keypage.proofs.key_page.KeyPage.divide.Goals as goal
 
@@ -15,11 +16,11 @@ pub overflow_add-at : goal.overflow_add-at
 overflow_add-at c =
     let d : Content = c.args.self.now in
     let all : Content = holding d c.args.items.now in
-    let leaf : d.leaf ≡ c.self.inside.leaf = sym (ap (λ (e : Content). e.leaf) c.self.view_is) in
-    let packed_too : ArePacked (width c.self.inside.leaf) all.items c.args.items.now = subst (λ (b : Bool). ArePacked (width b) all.items c.args.items.now) leaf c.requires.items.packed in
-    let left : IsLeft (width d.leaf) all.items c.middle-at.result.0 c.middle-at.result.1.now = subst (λ (b : Bool). IsLeft (width b) all.items c.middle-at.result.0 c.middle-at.result.1.now) (sym leaf) (c.middle-at.ensures.left all leaf packed_too c.requires.items.count_is) in
+    let kind : d.kind ≡ c.self.inside.kind = sym (ap (λ (e : Content). e.kind) c.self.view_is) in
+    let packed_too : ArePacked (width c.self.inside.kind) all.items c.args.items.now = subst (λ (b : Kind). ArePacked (width b) all.items c.args.items.now) kind c.requires.items.packed in
+    let left : IsLeft (width d.kind) all.items c.middle-at.result.0 c.middle-at.result.1.now = subst (λ (b : Kind). IsLeft (width b) all.items c.middle-at.result.0 c.middle-at.result.1.now) (sym kind) (c.middle-at.ensures.left all kind packed_too c.requires.items.count_is) in
     let size : c.first_size.result + length c.args.items.now ≡ length (item_bytes all) = omega (arith, c.first_size.ensures, holding-size d c.args.items.now c.args.count c.requires.items) in
-    let middle : IsMiddle all c.middle-at.result.0 = c.middle-at.ensures.middle all leaf packed_too c.requires.items.count_is size in
+    let middle : IsMiddle all c.middle-at.result.0 = c.middle-at.ensures.middle all kind packed_too c.requires.items.count_is size in
     let content : IsContent d = subst IsContent c.self.view_is c.self.invariant.content in
     omega (arith, (cut all c.args.items.now c.middle-at.result.1.now c.middle-at.result.0 c.requires.items.packed left middle c.requires.least).sizes.more, c.requires.items.count_is)
 
@@ -27,25 +28,25 @@ pub right_body-requires-clause-at : goal.right_body-requires-clause-at
 right_body-requires-clause-at c =
     let d : Content = c.args.self.now in
     let all : Content = holding d c.args.items.now in
-    let leaf : d.leaf ≡ c.self.inside.leaf = sym (ap (λ (e : Content). e.leaf) c.self.view_is) in
-    let packed_too : ArePacked (width c.self.inside.leaf) all.items c.args.items.now = subst (λ (b : Bool). ArePacked (width b) all.items c.args.items.now) leaf c.requires.items.packed in
-    let left : IsLeft (width d.leaf) all.items c.middle-at.result.0 c.middle-at.result.1.now = subst (λ (b : Bool). IsLeft (width b) all.items c.middle-at.result.0 c.middle-at.result.1.now) (sym leaf) (c.middle-at.ensures.left all leaf packed_too c.requires.items.count_is) in
+    let kind : d.kind ≡ c.self.inside.kind = sym (ap (λ (e : Content). e.kind) c.self.view_is) in
+    let packed_too : ArePacked (width c.self.inside.kind) all.items c.args.items.now = subst (λ (b : Kind). ArePacked (width b) all.items c.args.items.now) kind c.requires.items.packed in
+    let left : IsLeft (width d.kind) all.items c.middle-at.result.0 c.middle-at.result.1.now = subst (λ (b : Kind). IsLeft (width b) all.items c.middle-at.result.0 c.middle-at.result.1.now) (sym kind) (c.middle-at.ensures.left all kind packed_too c.requires.items.count_is) in
     let size : c.first_size.result + length c.args.items.now ≡ length (item_bytes all) = omega (arith, c.first_size.ensures, holding-size d c.args.items.now c.args.count c.requires.items) in
-    let middle : IsMiddle all c.middle-at.result.0 = c.middle-at.ensures.middle all leaf packed_too c.requires.items.count_is size in
+    let middle : IsMiddle all c.middle-at.result.0 = c.middle-at.ensures.middle all kind packed_too c.requires.items.count_is size in
     let content : IsContent d = subst IsContent c.self.view_is c.self.invariant.content in
     let done = divides d c.args.items.now c.middle-at.result.1.now c.as_slice.result.now c.args.count c.middle-at.result.0 content c.requires.items c.requires.least c.requires.most left middle
-    (λ h. c.as_slice.ensures.value ∙ c.in_ok-between.ensures all.items (subst (λ (n : ℕ). ArePacked n all.items c.args.items.now) (sym c.width_of.ensures) packed_too) h) in
+    (λ h. c.as_slice.ensures.value ∙ c.in_ok-between.ensures.entry all.items (subst (λ (n : ℕ). ArePacked n all.items c.args.items.now) (sym c.width.ensures) packed_too) h) in
     omega (arith, done.cut.sizes.more, c.requires.items.count_is)
 
 pub right_body-requires-clause-left : goal.right_body-requires-clause-left
 right_body-requires-clause-left c =
     let d : Content = c.args.self.now in
     let all : Content = holding d c.args.items.now in
-    let leaf : d.leaf ≡ c.self.inside.leaf = sym (ap (λ (e : Content). e.leaf) c.self.view_is) in
-    let packed_too : ArePacked (width c.self.inside.leaf) all.items c.args.items.now = subst (λ (b : Bool). ArePacked (width b) all.items c.args.items.now) leaf c.requires.items.packed in
-    let left : IsLeft (width d.leaf) all.items c.middle-at.result.0 c.middle-at.result.1.now = subst (λ (b : Bool). IsLeft (width b) all.items c.middle-at.result.0 c.middle-at.result.1.now) (sym leaf) (c.middle-at.ensures.left all leaf packed_too c.requires.items.count_is) in
+    let kind : d.kind ≡ c.self.inside.kind = sym (ap (λ (e : Content). e.kind) c.self.view_is) in
+    let packed_too : ArePacked (width c.self.inside.kind) all.items c.args.items.now = subst (λ (b : Kind). ArePacked (width b) all.items c.args.items.now) kind c.requires.items.packed in
+    let left : IsLeft (width d.kind) all.items c.middle-at.result.0 c.middle-at.result.1.now = subst (λ (b : Kind). IsLeft (width b) all.items c.middle-at.result.0 c.middle-at.result.1.now) (sym kind) (c.middle-at.ensures.left all kind packed_too c.requires.items.count_is) in
     let size : c.first_size.result + length c.args.items.now ≡ length (item_bytes all) = omega (arith, c.first_size.ensures, holding-size d c.args.items.now c.args.count c.requires.items) in
-    let middle : IsMiddle all c.middle-at.result.0 = c.middle-at.ensures.middle all leaf packed_too c.requires.items.count_is size in
+    let middle : IsMiddle all c.middle-at.result.0 = c.middle-at.ensures.middle all kind packed_too c.requires.items.count_is size in
     let content : IsContent d = subst IsContent c.self.view_is c.self.invariant.content in
     left
 
@@ -53,70 +54,70 @@ pub right_body-requires-clause-entry : goal.right_body-requires-clause-entry
 right_body-requires-clause-entry c =
     let d : Content = c.args.self.now in
     let all : Content = holding d c.args.items.now in
-    let leaf : d.leaf ≡ c.self.inside.leaf = sym (ap (λ (e : Content). e.leaf) c.self.view_is) in
-    let packed_too : ArePacked (width c.self.inside.leaf) all.items c.args.items.now = subst (λ (b : Bool). ArePacked (width b) all.items c.args.items.now) leaf c.requires.items.packed in
-    let left : IsLeft (width d.leaf) all.items c.middle-at.result.0 c.middle-at.result.1.now = subst (λ (b : Bool). IsLeft (width b) all.items c.middle-at.result.0 c.middle-at.result.1.now) (sym leaf) (c.middle-at.ensures.left all leaf packed_too c.requires.items.count_is) in
+    let kind : d.kind ≡ c.self.inside.kind = sym (ap (λ (e : Content). e.kind) c.self.view_is) in
+    let packed_too : ArePacked (width c.self.inside.kind) all.items c.args.items.now = subst (λ (b : Kind). ArePacked (width b) all.items c.args.items.now) kind c.requires.items.packed in
+    let left : IsLeft (width d.kind) all.items c.middle-at.result.0 c.middle-at.result.1.now = subst (λ (b : Kind). IsLeft (width b) all.items c.middle-at.result.0 c.middle-at.result.1.now) (sym kind) (c.middle-at.ensures.left all kind packed_too c.requires.items.count_is) in
     let size : c.first_size.result + length c.args.items.now ≡ length (item_bytes all) = omega (arith, c.first_size.ensures, holding-size d c.args.items.now c.args.count c.requires.items) in
-    let middle : IsMiddle all c.middle-at.result.0 = c.middle-at.ensures.middle all leaf packed_too c.requires.items.count_is size in
+    let middle : IsMiddle all c.middle-at.result.0 = c.middle-at.ensures.middle all kind packed_too c.requires.items.count_is size in
     let content : IsContent d = subst IsContent c.self.view_is c.self.invariant.content in
     let done = divides d c.args.items.now c.middle-at.result.1.now c.as_slice.result.now c.args.count c.middle-at.result.0 content c.requires.items c.requires.least c.requires.most left middle
-    (λ h. c.as_slice.ensures.value ∙ c.in_ok-between.ensures all.items (subst (λ (n : ℕ). ArePacked n all.items c.args.items.now) (sym c.width_of.ensures) packed_too) h) in
+    (λ h. c.as_slice.ensures.value ∙ c.in_ok-between.ensures.entry all.items (subst (λ (n : ℕ). ArePacked n all.items c.args.items.now) (sym c.width.ensures) packed_too) h) in
     done.entry_is
 
 pub right_body-requires-clause-room : goal.right_body-requires-clause-room
 right_body-requires-clause-room c =
     let d : Content = c.args.self.now in
     let all : Content = holding d c.args.items.now in
-    let leaf : d.leaf ≡ c.self.inside.leaf = sym (ap (λ (e : Content). e.leaf) c.self.view_is) in
-    let packed_too : ArePacked (width c.self.inside.leaf) all.items c.args.items.now = subst (λ (b : Bool). ArePacked (width b) all.items c.args.items.now) leaf c.requires.items.packed in
-    let left : IsLeft (width d.leaf) all.items c.middle-at.result.0 c.middle-at.result.1.now = subst (λ (b : Bool). IsLeft (width b) all.items c.middle-at.result.0 c.middle-at.result.1.now) (sym leaf) (c.middle-at.ensures.left all leaf packed_too c.requires.items.count_is) in
+    let kind : d.kind ≡ c.self.inside.kind = sym (ap (λ (e : Content). e.kind) c.self.view_is) in
+    let packed_too : ArePacked (width c.self.inside.kind) all.items c.args.items.now = subst (λ (b : Kind). ArePacked (width b) all.items c.args.items.now) kind c.requires.items.packed in
+    let left : IsLeft (width d.kind) all.items c.middle-at.result.0 c.middle-at.result.1.now = subst (λ (b : Kind). IsLeft (width b) all.items c.middle-at.result.0 c.middle-at.result.1.now) (sym kind) (c.middle-at.ensures.left all kind packed_too c.requires.items.count_is) in
     let size : c.first_size.result + length c.args.items.now ≡ length (item_bytes all) = omega (arith, c.first_size.ensures, holding-size d c.args.items.now c.args.count c.requires.items) in
-    let middle : IsMiddle all c.middle-at.result.0 = c.middle-at.ensures.middle all leaf packed_too c.requires.items.count_is size in
+    let middle : IsMiddle all c.middle-at.result.0 = c.middle-at.ensures.middle all kind packed_too c.requires.items.count_is size in
     let content : IsContent d = subst IsContent c.self.view_is c.self.invariant.content in
     let done = divides d c.args.items.now c.middle-at.result.1.now c.as_slice.result.now c.args.count c.middle-at.result.0 content c.requires.items c.requires.least c.requires.most left middle
-    (λ h. c.as_slice.ensures.value ∙ c.in_ok-between.ensures all.items (subst (λ (n : ℕ). ArePacked n all.items c.args.items.now) (sym c.width_of.ensures) packed_too) h) in
+    (λ h. c.as_slice.ensures.value ∙ c.in_ok-between.ensures.entry all.items (subst (λ (n : ℕ). ArePacked n all.items c.args.items.now) (sym c.width.ensures) packed_too) h) in
     done.right_room
 
 pub overflow_sub-items : goal.overflow_sub-items
 overflow_sub-items c =
     let d : Content = c.args.self.now in
     let all : Content = holding d c.args.items.now in
-    let leaf : d.leaf ≡ c.self.inside.leaf = sym (ap (λ (e : Content). e.leaf) c.self.view_is) in
-    let packed_too : ArePacked (width c.self.inside.leaf) all.items c.args.items.now = subst (λ (b : Bool). ArePacked (width b) all.items c.args.items.now) leaf c.requires.items.packed in
-    let left : IsLeft (width d.leaf) all.items c.middle-at.result.0 c.middle-at.result.1.now = subst (λ (b : Bool). IsLeft (width b) all.items c.middle-at.result.0 c.middle-at.result.1.now) (sym leaf) (c.middle-at.ensures.left all leaf packed_too c.requires.items.count_is) in
+    let kind : d.kind ≡ c.self.inside.kind = sym (ap (λ (e : Content). e.kind) c.self.view_is) in
+    let packed_too : ArePacked (width c.self.inside.kind) all.items c.args.items.now = subst (λ (b : Kind). ArePacked (width b) all.items c.args.items.now) kind c.requires.items.packed in
+    let left : IsLeft (width d.kind) all.items c.middle-at.result.0 c.middle-at.result.1.now = subst (λ (b : Kind). IsLeft (width b) all.items c.middle-at.result.0 c.middle-at.result.1.now) (sym kind) (c.middle-at.ensures.left all kind packed_too c.requires.items.count_is) in
     let size : c.first_size.result + length c.args.items.now ≡ length (item_bytes all) = omega (arith, c.first_size.ensures, holding-size d c.args.items.now c.args.count c.requires.items) in
-    let middle : IsMiddle all c.middle-at.result.0 = c.middle-at.ensures.middle all leaf packed_too c.requires.items.count_is size in
+    let middle : IsMiddle all c.middle-at.result.0 = c.middle-at.ensures.middle all kind packed_too c.requires.items.count_is size in
     let content : IsContent d = subst IsContent c.self.view_is c.self.invariant.content in
     let done = divides d c.args.items.now c.middle-at.result.1.now c.as_slice.result.now c.args.count c.middle-at.result.0 content c.requires.items c.requires.least c.requires.most left middle
-    (λ h. c.as_slice.ensures.value ∙ c.in_ok-between.ensures all.items (subst (λ (n : ℕ). ArePacked n all.items c.args.items.now) (sym c.width_of.ensures) packed_too) h) in
+    (λ h. c.as_slice.ensures.value ∙ c.in_ok-between.ensures.entry all.items (subst (λ (n : ℕ). ArePacked n all.items c.args.items.now) (sym c.width.ensures) packed_too) h) in
     done.cut.inside
 
 pub shorten-requires-clause-room : goal.shorten-requires-clause-room
 shorten-requires-clause-room c =
     let d : Content = c.args.self.now in
     let all : Content = holding d c.args.items.now in
-    let leaf : d.leaf ≡ c.self.inside.leaf = sym (ap (λ (e : Content). e.leaf) c.self.view_is) in
-    let packed_too : ArePacked (width c.self.inside.leaf) all.items c.args.items.now = subst (λ (b : Bool). ArePacked (width b) all.items c.args.items.now) leaf c.requires.items.packed in
-    let left : IsLeft (width d.leaf) all.items c.middle-at.result.0 c.middle-at.result.1.now = subst (λ (b : Bool). IsLeft (width b) all.items c.middle-at.result.0 c.middle-at.result.1.now) (sym leaf) (c.middle-at.ensures.left all leaf packed_too c.requires.items.count_is) in
+    let kind : d.kind ≡ c.self.inside.kind = sym (ap (λ (e : Content). e.kind) c.self.view_is) in
+    let packed_too : ArePacked (width c.self.inside.kind) all.items c.args.items.now = subst (λ (b : Kind). ArePacked (width b) all.items c.args.items.now) kind c.requires.items.packed in
+    let left : IsLeft (width d.kind) all.items c.middle-at.result.0 c.middle-at.result.1.now = subst (λ (b : Kind). IsLeft (width b) all.items c.middle-at.result.0 c.middle-at.result.1.now) (sym kind) (c.middle-at.ensures.left all kind packed_too c.requires.items.count_is) in
     let size : c.first_size.result + length c.args.items.now ≡ length (item_bytes all) = omega (arith, c.first_size.ensures, holding-size d c.args.items.now c.args.count c.requires.items) in
-    let middle : IsMiddle all c.middle-at.result.0 = c.middle-at.ensures.middle all leaf packed_too c.requires.items.count_is size in
+    let middle : IsMiddle all c.middle-at.result.0 = c.middle-at.ensures.middle all kind packed_too c.requires.items.count_is size in
     let content : IsContent d = subst IsContent c.self.view_is c.self.invariant.content in
     let done = divides d c.args.items.now c.middle-at.result.1.now c.as_slice.result.now c.args.count c.middle-at.result.0 content c.requires.items c.requires.least c.requires.most left middle
-    (λ h. c.as_slice.ensures.value ∙ c.in_ok-between.ensures all.items (subst (λ (n : ℕ). ArePacked n all.items c.args.items.now) (sym c.width_of.ensures) packed_too) h) in
+    (λ h. c.as_slice.ensures.value ∙ c.in_ok-between.ensures.entry all.items (subst (λ (n : ℕ). ArePacked n all.items c.args.items.now) (sym c.width.ensures) packed_too) h) in
     done.left_room
 
 pub returns-clause-split : goal.returns-clause-split
 returns-clause-split c =
     let d : Content = c.args.self.now in
     let all : Content = holding d c.args.items.now in
-    let leaf : d.leaf ≡ c.self.inside.leaf = sym (ap (λ (e : Content). e.leaf) c.self.view_is) in
-    let packed_too : ArePacked (width c.self.inside.leaf) all.items c.args.items.now = subst (λ (b : Bool). ArePacked (width b) all.items c.args.items.now) leaf c.requires.items.packed in
-    let left : IsLeft (width d.leaf) all.items c.middle-at.result.0 c.middle-at.result.1.now = subst (λ (b : Bool). IsLeft (width b) all.items c.middle-at.result.0 c.middle-at.result.1.now) (sym leaf) (c.middle-at.ensures.left all leaf packed_too c.requires.items.count_is) in
+    let kind : d.kind ≡ c.self.inside.kind = sym (ap (λ (e : Content). e.kind) c.self.view_is) in
+    let packed_too : ArePacked (width c.self.inside.kind) all.items c.args.items.now = subst (λ (b : Kind). ArePacked (width b) all.items c.args.items.now) kind c.requires.items.packed in
+    let left : IsLeft (width d.kind) all.items c.middle-at.result.0 c.middle-at.result.1.now = subst (λ (b : Kind). IsLeft (width b) all.items c.middle-at.result.0 c.middle-at.result.1.now) (sym kind) (c.middle-at.ensures.left all kind packed_too c.requires.items.count_is) in
     let size : c.first_size.result + length c.args.items.now ≡ length (item_bytes all) = omega (arith, c.first_size.ensures, holding-size d c.args.items.now c.args.count c.requires.items) in
-    let middle : IsMiddle all c.middle-at.result.0 = c.middle-at.ensures.middle all leaf packed_too c.requires.items.count_is size in
+    let middle : IsMiddle all c.middle-at.result.0 = c.middle-at.ensures.middle all kind packed_too c.requires.items.count_is size in
     let content : IsContent d = subst IsContent c.self.view_is c.self.invariant.content in
     let done = divides d c.args.items.now c.middle-at.result.1.now c.as_slice.result.now c.args.count c.middle-at.result.0 content c.requires.items c.requires.least c.requires.most left middle
-    (λ h. c.as_slice.ensures.value ∙ c.in_ok-between.ensures all.items (subst (λ (n : ℕ). ArePacked n all.items c.args.items.now) (sym c.width_of.ensures) packed_too) h) in
+    (λ h. c.as_slice.ensures.value ∙ c.in_ok-between.ensures.entry all.items (subst (λ (n : ℕ). ArePacked n all.items c.args.items.now) (sym c.width.ensures) packed_too) h) in
     record {
       at = c.middle-at.result.0;
       middle = middle;
@@ -130,12 +131,12 @@ pub returns-clause-bytes : goal.returns-clause-bytes
 returns-clause-bytes c =
     let d : Content = c.args.self.now in
     let all : Content = holding d c.args.items.now in
-    let leaf : d.leaf ≡ c.self.inside.leaf = sym (ap (λ (e : Content). e.leaf) c.self.view_is) in
-    let packed_too : ArePacked (width c.self.inside.leaf) all.items c.args.items.now = subst (λ (b : Bool). ArePacked (width b) all.items c.args.items.now) leaf c.requires.items.packed in
-    let left : IsLeft (width d.leaf) all.items c.middle-at.result.0 c.middle-at.result.1.now = subst (λ (b : Bool). IsLeft (width b) all.items c.middle-at.result.0 c.middle-at.result.1.now) (sym leaf) (c.middle-at.ensures.left all leaf packed_too c.requires.items.count_is) in
+    let kind : d.kind ≡ c.self.inside.kind = sym (ap (λ (e : Content). e.kind) c.self.view_is) in
+    let packed_too : ArePacked (width c.self.inside.kind) all.items c.args.items.now = subst (λ (b : Kind). ArePacked (width b) all.items c.args.items.now) kind c.requires.items.packed in
+    let left : IsLeft (width d.kind) all.items c.middle-at.result.0 c.middle-at.result.1.now = subst (λ (b : Kind). IsLeft (width b) all.items c.middle-at.result.0 c.middle-at.result.1.now) (sym kind) (c.middle-at.ensures.left all kind packed_too c.requires.items.count_is) in
     let size : c.first_size.result + length c.args.items.now ≡ length (item_bytes all) = omega (arith, c.first_size.ensures, holding-size d c.args.items.now c.args.count c.requires.items) in
-    let middle : IsMiddle all c.middle-at.result.0 = c.middle-at.ensures.middle all leaf packed_too c.requires.items.count_is size in
+    let middle : IsMiddle all c.middle-at.result.0 = c.middle-at.ensures.middle all kind packed_too c.requires.items.count_is size in
     let content : IsContent d = subst IsContent c.self.view_is c.self.invariant.content in
     let done = divides d c.args.items.now c.middle-at.result.1.now c.as_slice.result.now c.args.count c.middle-at.result.0 content c.requires.items c.requires.least c.requires.most left middle
-    (λ h. c.as_slice.ensures.value ∙ c.in_ok-between.ensures all.items (subst (λ (n : ℕ). ArePacked n all.items c.args.items.now) (sym c.width_of.ensures) packed_too) h) in
+    (λ h. c.as_slice.ensures.value ∙ c.in_ok-between.ensures.entry all.items (subst (λ (n : ℕ). ArePacked n all.items c.args.items.now) (sym c.width.ensures) packed_too) h) in
     omega (arith, c.in_ok-left.ensures.bytes, done.bytes, own-size d)

@@ -1,6 +1,6 @@
 use Rattle.std.proofs.Common.{◌∙◌, ap, arith}
 use Rattle.aria_keypage.specs.Item.{Item}
-use Rattle.aria_keypage.specs.Raw.{Raw}
+use Rattle.aria_keypage.specs.StoredItem.{StoredItem}
 use Rattle.aria_keypage.specs.Content.{Content, width}
 use Rattle.aria_keypage.proofs.Read.{packed-seen}
 use Rattle.aria_keypage.proofs.Grown.{grown-last, grown-inside}
@@ -10,19 +10,19 @@ pub returns-in_default : goal.returns-in_default
 returns-in_default c to =
     let d : Content = c.args.self.now in
     let x : Item = record { entry = c.args.entry.now; to = to } in
-    let ew = c.width_of-width.ensures ∙ ap (λ (e : Content). width e.leaf) c.self.view_is in
-    let is = packed-seen _ d c.width_of-width.result c.self.inside.items.now c.self.view_is c.self.invariant.packed ew in
-    let size = grown-last d c.args.at c.width_of-width.result c.capped.result c.met_at-met.result.0 x c.self.inside.items.now c.met_at-met.result.1.now is ew (c.met_at-met.ensures.left d.items is c.requires.at) c.in_default.ensures (c.met_at-met.ensures.met d.items is c.requires.at) c.capped.ensures in
+    let ew = c.width-width.ensures ∙ ap (λ (e : Content). width e.kind) c.self.view_is in
+    let is = packed-seen _ d c.width-width.result c.self.inside.items.now c.self.view_is c.self.invariant.packed ew in
+    let size = grown-last d c.args.at c.width-width.result c.capped.result c.met_at-met.result.0 x c.self.inside.items.now c.met_at-met.result.1.now is ew (c.met_at-met.ensures.left d.items is c.requires.at) c.in_default.ensures (c.met_at-met.ensures.met d.items is c.requires.at) c.capped.ensures in
     omega (arith, size, c.size.ensures.size)
 
 pub overflow_sub-result-3 : goal.overflow_sub-result-3
 overflow_sub-result-3 c =
     let d : Content = c.args.self.now in
     let x : Item = record { entry = c.args.entry.now; to = 0 } in
-    let ew = c.width_of-width.ensures ∙ ap (λ (e : Content). width e.leaf) c.self.view_is in
-    let is = packed-seen _ d c.width_of-width.result c.self.inside.items.now c.self.view_is c.self.invariant.packed ew in
-    let r : Raw = record { shared = c.in-Some.raw.shared; rest = c.in-Some.raw.rest.now; to = c.in-Some.raw.to.now } in
-    let size = grown-inside d c.args.at c.width_of-width.result c.capped-2.result c.capped-3.result c.met_at-met.result.0 c.against-same.result.0 x c.self.inside.items.now c.met_at-met.result.1.now _ r is ew (c.met_at-met.ensures.left d.items is c.requires.at) c.in-Some.ensures
+    let ew = c.width-width.ensures ∙ ap (λ (e : Content). width e.kind) c.self.view_is in
+    let is = packed-seen _ d c.width-width.result c.self.inside.items.now c.self.view_is c.self.invariant.packed ew in
+    let r : StoredItem = record { shared = c.in-Some.item.shared; rest = c.in-Some.item.rest.now; to = c.in-Some.item.to.now } in
+    let size = grown-inside d c.args.at c.width-width.result c.capped-2.result c.capped-3.result c.met_at-met.result.0 c.against-same.result.0 x c.self.inside.items.now c.met_at-met.result.1.now _ r is ew (c.met_at-met.ensures.left d.items is c.requires.at) c.in-Some.ensures
     (c.met_at-met.ensures.met d.items is c.requires.at) c.against-same.ensures.common c.capped-2.ensures c.capped-3.ensures in
     omega (arith, size, c.size.ensures.size)
 
@@ -30,9 +30,9 @@ pub returns : goal.returns
 returns c to =
     let d : Content = c.args.self.now in
     let x : Item = record { entry = c.args.entry.now; to = to } in
-    let ew = c.width_of-width.ensures ∙ ap (λ (e : Content). width e.leaf) c.self.view_is in
-    let is = packed-seen _ d c.width_of-width.result c.self.inside.items.now c.self.view_is c.self.invariant.packed ew in
-    let r : Raw = record { shared = c.in-Some.raw.shared; rest = c.in-Some.raw.rest.now; to = c.in-Some.raw.to.now } in
-    let size = grown-inside d c.args.at c.width_of-width.result c.capped-2.result c.capped-3.result c.met_at-met.result.0 c.against-same.result.0 x c.self.inside.items.now c.met_at-met.result.1.now _ r is ew (c.met_at-met.ensures.left d.items is c.requires.at) c.in-Some.ensures
+    let ew = c.width-width.ensures ∙ ap (λ (e : Content). width e.kind) c.self.view_is in
+    let is = packed-seen _ d c.width-width.result c.self.inside.items.now c.self.view_is c.self.invariant.packed ew in
+    let r : StoredItem = record { shared = c.in-Some.item.shared; rest = c.in-Some.item.rest.now; to = c.in-Some.item.to.now } in
+    let size = grown-inside d c.args.at c.width-width.result c.capped-2.result c.capped-3.result c.met_at-met.result.0 c.against-same.result.0 x c.self.inside.items.now c.met_at-met.result.1.now _ r is ew (c.met_at-met.ensures.left d.items is c.requires.at) c.in-Some.ensures
     (c.met_at-met.ensures.met d.items is c.requires.at) c.against-same.ensures.common c.capped-2.ensures c.capped-3.ensures in
     omega (arith, size, c.size.ensures.size)

@@ -1,12 +1,13 @@
-use Rattle.std.proofs.Common.{◌≡◌, ◌∙◌, ◌++◌, ◌+◌, ◌-◌, ◌*◌, ◌≤◌, [], ap, subst, arith, length, ℕ, List, Bool, IfOk, inl, inr, refl}
+use Rattle.std.proofs.Common.{◌≡◌, ◌∙◌, ◌++◌, ◌+◌, ◌-◌, ◌*◌, ◌≤◌, [], ap, subst, arith, length, ℕ, List, IfOk, inl, inr, refl}
 use Rattle.std.specs.List.{sum_by}
 use Rattle.std.proofs.lemmas.List.{length-append}
+use Rattle.aria_keypage.specs.declared.kind.Kind.{Kind}
 use Rattle.aria_keypage.specs.Item.{entry_before}
 use Rattle.aria_keypage.specs.Packed.{packed}
 use Rattle.aria_keypage.specs.Content.{Content, IsContent, item_bytes, width}
 use Rattle.aria_keypage.specs.Change.{edit_bytes}
-use Rattle.aria_keypage.specs.Pair.{taken_over, joined}
-use Rattle.aria_keypage.specs.Halves.{holding, IsSplit}
+use Rattle.aria_keypage.specs.Merge.{taken_over, joined}
+use Rattle.aria_keypage.specs.Split.{holding, IsSplit}
 use Rattle.aria_keypage.proofs.Options.{ok-map}
 use Rattle.aria_keypage.proofs.Read.{content-count}
 use Rattle.aria_keypage.proofs.Joined.{joined-packed, over-count}
@@ -20,7 +21,7 @@ overflow_add-count c =
     let r : Content = c.args.right.now in
     let count : c.self.inside.count ≡ length d.items = c.self.invariant.count_is ∙ ap (λ (e : Content). length e.items) c.self.view_is in
     let content : IsContent d = subst IsContent c.self.view_is c.self.invariant.content in
-    omega (arith, count, content-count d content, content-count r c.push_over.ensures.content, c.count_over.ensures c.args.between.now, over-count r.leaf c.args.between.now r.first r.items)
+    omega (arith, count, content-count d content, content-count r c.push_over.ensures.content, c.count_over.ensures c.args.between.now, over-count r.kind c.args.between.now r.first r.items)
 
 pub divide-requires-clause-items : goal.divide-requires-clause-items
 divide-requires-clause-items c =
@@ -29,12 +30,12 @@ divide-requires-clause-items c =
     let count : c.self.inside.count ≡ length d.items = c.self.invariant.count_is ∙ ap (λ (e : Content). length e.items) c.self.view_is in
     let all : Content = joined d c.args.between.now r in
     let content : IsContent d = subst IsContent c.self.view_is c.self.invariant.content in
-    let own = own-packed c.self.inside.leaf c.self.inside.key c.self.inside.first c.self.inside.count c.self.inside.items.now d c.self.invariant c.self.view_is in
-    let before = c.as_slice.ensures.value ∙ c.in_ok-before.ensures ∙ ap (entry_before d.items) count in
-    let over : List ℕ = packed (width r.leaf) c.as_slice.result.now (taken_over r.leaf c.args.between.now r.first r.items) in
-    let items : c.as_slice-2.result.now ≡ packed (width d.leaf) [] d.items ++ over = c.as_slice-2.ensures.value ∙ c.in_ok-push_over.ensures.bytes ∙ ap (λ (l : List ℕ). l ++ over) (c.in_ok-items.ensures.items ∙ own) in
+    let own = own-packed c.self.inside.kind c.self.inside.key c.self.inside.first c.self.inside.count c.self.inside.items.now d c.self.invariant c.self.view_is in
+    let before = c.as_slice.ensures.value ∙ c.in_ok-before.ensures.entry ∙ ap (entry_before d.items) count in
+    let over : List ℕ = packed (width r.kind) c.as_slice.result.now (taken_over r.kind c.args.between.now r.first r.items) in
+    let items : c.as_slice-2.result.now ≡ packed (width d.kind) [] d.items ++ over = c.as_slice-2.ensures.value ∙ c.in_ok-push_over.ensures.bytes ∙ ap (λ (l : List ℕ). l ++ over) (c.in_ok-items.ensures.items ∙ own) in
     let is = joined-packed d r c.args.between.now c.as_slice.result.now c.as_slice-2.result.now content c.push_over.ensures.content c.requires.kinds c.requires.between before items in
-    let number : c.self.inside.count + c.count_over.result ≡ length all.items = omega (arith, count, c.count_over.ensures c.args.between.now, ap (λ (b : Bool). length (taken_over b c.args.between.now r.first r.items)) c.requires.kinds, length-append d.items (taken_over d.leaf c.args.between.now r.first r.items)) in
+    let number : c.self.inside.count + c.count_over.result ≡ length all.items = omega (arith, count, c.count_over.ensures c.args.between.now, ap (λ (b : Kind). length (taken_over b c.args.between.now r.first r.items)) c.requires.kinds, length-append d.items (taken_over d.kind c.args.between.now r.first r.items)) in
     let same = held d all c.as_slice-2.result.now (c.self.inside.count + c.count_over.result) refl refl refl is number in
     same.1
 
@@ -45,12 +46,12 @@ divide-requires-clause-begin c =
     let count : c.self.inside.count ≡ length d.items = c.self.invariant.count_is ∙ ap (λ (e : Content). length e.items) c.self.view_is in
     let all : Content = joined d c.args.between.now r in
     let content : IsContent d = subst IsContent c.self.view_is c.self.invariant.content in
-    let own = own-packed c.self.inside.leaf c.self.inside.key c.self.inside.first c.self.inside.count c.self.inside.items.now d c.self.invariant c.self.view_is in
-    let before = c.as_slice.ensures.value ∙ c.in_ok-before.ensures ∙ ap (entry_before d.items) count in
-    let over : List ℕ = packed (width r.leaf) c.as_slice.result.now (taken_over r.leaf c.args.between.now r.first r.items) in
-    let items : c.as_slice-2.result.now ≡ packed (width d.leaf) [] d.items ++ over = c.as_slice-2.ensures.value ∙ c.in_ok-push_over.ensures.bytes ∙ ap (λ (l : List ℕ). l ++ over) (c.in_ok-items.ensures.items ∙ own) in
+    let own = own-packed c.self.inside.kind c.self.inside.key c.self.inside.first c.self.inside.count c.self.inside.items.now d c.self.invariant c.self.view_is in
+    let before = c.as_slice.ensures.value ∙ c.in_ok-before.ensures.entry ∙ ap (entry_before d.items) count in
+    let over : List ℕ = packed (width r.kind) c.as_slice.result.now (taken_over r.kind c.args.between.now r.first r.items) in
+    let items : c.as_slice-2.result.now ≡ packed (width d.kind) [] d.items ++ over = c.as_slice-2.ensures.value ∙ c.in_ok-push_over.ensures.bytes ∙ ap (λ (l : List ℕ). l ++ over) (c.in_ok-items.ensures.items ∙ own) in
     let is = joined-packed d r c.args.between.now c.as_slice.result.now c.as_slice-2.result.now content c.push_over.ensures.content c.requires.kinds c.requires.between before items in
-    let number : c.self.inside.count + c.count_over.result ≡ length all.items = omega (arith, count, c.count_over.ensures c.args.between.now, ap (λ (b : Bool). length (taken_over b c.args.between.now r.first r.items)) c.requires.kinds, length-append d.items (taken_over d.leaf c.args.between.now r.first r.items)) in
+    let number : c.self.inside.count + c.count_over.result ≡ length all.items = omega (arith, count, c.count_over.ensures c.args.between.now, ap (λ (b : Kind). length (taken_over b c.args.between.now r.first r.items)) c.requires.kinds, length-append d.items (taken_over d.kind c.args.between.now r.first r.items)) in
     let same = held d all c.as_slice-2.result.now (c.self.inside.count + c.count_over.result) refl refl refl is number in
     (over, items)
 
@@ -61,12 +62,12 @@ divide-requires-clause-least c =
     let count : c.self.inside.count ≡ length d.items = c.self.invariant.count_is ∙ ap (λ (e : Content). length e.items) c.self.view_is in
     let all : Content = joined d c.args.between.now r in
     let content : IsContent d = subst IsContent c.self.view_is c.self.invariant.content in
-    let own = own-packed c.self.inside.leaf c.self.inside.key c.self.inside.first c.self.inside.count c.self.inside.items.now d c.self.invariant c.self.view_is in
-    let before = c.as_slice.ensures.value ∙ c.in_ok-before.ensures ∙ ap (entry_before d.items) count in
-    let over : List ℕ = packed (width r.leaf) c.as_slice.result.now (taken_over r.leaf c.args.between.now r.first r.items) in
-    let items : c.as_slice-2.result.now ≡ packed (width d.leaf) [] d.items ++ over = c.as_slice-2.ensures.value ∙ c.in_ok-push_over.ensures.bytes ∙ ap (λ (l : List ℕ). l ++ over) (c.in_ok-items.ensures.items ∙ own) in
+    let own = own-packed c.self.inside.kind c.self.inside.key c.self.inside.first c.self.inside.count c.self.inside.items.now d c.self.invariant c.self.view_is in
+    let before = c.as_slice.ensures.value ∙ c.in_ok-before.ensures.entry ∙ ap (entry_before d.items) count in
+    let over : List ℕ = packed (width r.kind) c.as_slice.result.now (taken_over r.kind c.args.between.now r.first r.items) in
+    let items : c.as_slice-2.result.now ≡ packed (width d.kind) [] d.items ++ over = c.as_slice-2.ensures.value ∙ c.in_ok-push_over.ensures.bytes ∙ ap (λ (l : List ℕ). l ++ over) (c.in_ok-items.ensures.items ∙ own) in
     let is = joined-packed d r c.args.between.now c.as_slice.result.now c.as_slice-2.result.now content c.push_over.ensures.content c.requires.kinds c.requires.between before items in
-    let number : c.self.inside.count + c.count_over.result ≡ length all.items = omega (arith, count, c.count_over.ensures c.args.between.now, ap (λ (b : Bool). length (taken_over b c.args.between.now r.first r.items)) c.requires.kinds, length-append d.items (taken_over d.leaf c.args.between.now r.first r.items)) in
+    let number : c.self.inside.count + c.count_over.result ≡ length all.items = omega (arith, count, c.count_over.ensures c.args.between.now, ap (λ (b : Kind). length (taken_over b c.args.between.now r.first r.items)) c.requires.kinds, length-append d.items (taken_over d.kind c.args.between.now r.first r.items)) in
     let same = held d all c.as_slice-2.result.now (c.self.inside.count + c.count_over.result) refl refl refl is number in
     omega (arith, ap (λ (e : Content). length (item_bytes e)) same.0, c.requires.many)
 
@@ -77,12 +78,12 @@ divide-requires-clause-most c =
     let count : c.self.inside.count ≡ length d.items = c.self.invariant.count_is ∙ ap (λ (e : Content). length e.items) c.self.view_is in
     let all : Content = joined d c.args.between.now r in
     let content : IsContent d = subst IsContent c.self.view_is c.self.invariant.content in
-    let own = own-packed c.self.inside.leaf c.self.inside.key c.self.inside.first c.self.inside.count c.self.inside.items.now d c.self.invariant c.self.view_is in
-    let before = c.as_slice.ensures.value ∙ c.in_ok-before.ensures ∙ ap (entry_before d.items) count in
-    let over : List ℕ = packed (width r.leaf) c.as_slice.result.now (taken_over r.leaf c.args.between.now r.first r.items) in
-    let items : c.as_slice-2.result.now ≡ packed (width d.leaf) [] d.items ++ over = c.as_slice-2.ensures.value ∙ c.in_ok-push_over.ensures.bytes ∙ ap (λ (l : List ℕ). l ++ over) (c.in_ok-items.ensures.items ∙ own) in
+    let own = own-packed c.self.inside.kind c.self.inside.key c.self.inside.first c.self.inside.count c.self.inside.items.now d c.self.invariant c.self.view_is in
+    let before = c.as_slice.ensures.value ∙ c.in_ok-before.ensures.entry ∙ ap (entry_before d.items) count in
+    let over : List ℕ = packed (width r.kind) c.as_slice.result.now (taken_over r.kind c.args.between.now r.first r.items) in
+    let items : c.as_slice-2.result.now ≡ packed (width d.kind) [] d.items ++ over = c.as_slice-2.ensures.value ∙ c.in_ok-push_over.ensures.bytes ∙ ap (λ (l : List ℕ). l ++ over) (c.in_ok-items.ensures.items ∙ own) in
     let is = joined-packed d r c.args.between.now c.as_slice.result.now c.as_slice-2.result.now content c.push_over.ensures.content c.requires.kinds c.requires.between before items in
-    let number : c.self.inside.count + c.count_over.result ≡ length all.items = omega (arith, count, c.count_over.ensures c.args.between.now, ap (λ (b : Bool). length (taken_over b c.args.between.now r.first r.items)) c.requires.kinds, length-append d.items (taken_over d.leaf c.args.between.now r.first r.items)) in
+    let number : c.self.inside.count + c.count_over.result ≡ length all.items = omega (arith, count, c.count_over.ensures c.args.between.now, ap (λ (b : Kind). length (taken_over b c.args.between.now r.first r.items)) c.requires.kinds, length-append d.items (taken_over d.kind c.args.between.now r.first r.items)) in
     let same = held d all c.as_slice-2.result.now (c.self.inside.count + c.count_over.result) refl refl refl is number in
     let most : length (item_bytes all) ≤ 11224 = elim c.requires.low [
       | inl low ↦ omega (arith, joined-most d r c.args.between.now c.requires.kinds c.requires.between, c.push_over.ensures.content.size)
@@ -97,12 +98,12 @@ returns-clause-split c =
     let count : c.self.inside.count ≡ length d.items = c.self.invariant.count_is ∙ ap (λ (e : Content). length e.items) c.self.view_is in
     let all : Content = joined d c.args.between.now r in
     let content : IsContent d = subst IsContent c.self.view_is c.self.invariant.content in
-    let own = own-packed c.self.inside.leaf c.self.inside.key c.self.inside.first c.self.inside.count c.self.inside.items.now d c.self.invariant c.self.view_is in
-    let before = c.as_slice.ensures.value ∙ c.in_ok-before.ensures ∙ ap (entry_before d.items) count in
-    let over : List ℕ = packed (width r.leaf) c.as_slice.result.now (taken_over r.leaf c.args.between.now r.first r.items) in
-    let items : c.as_slice-2.result.now ≡ packed (width d.leaf) [] d.items ++ over = c.as_slice-2.ensures.value ∙ c.in_ok-push_over.ensures.bytes ∙ ap (λ (l : List ℕ). l ++ over) (c.in_ok-items.ensures.items ∙ own) in
+    let own = own-packed c.self.inside.kind c.self.inside.key c.self.inside.first c.self.inside.count c.self.inside.items.now d c.self.invariant c.self.view_is in
+    let before = c.as_slice.ensures.value ∙ c.in_ok-before.ensures.entry ∙ ap (entry_before d.items) count in
+    let over : List ℕ = packed (width r.kind) c.as_slice.result.now (taken_over r.kind c.args.between.now r.first r.items) in
+    let items : c.as_slice-2.result.now ≡ packed (width d.kind) [] d.items ++ over = c.as_slice-2.ensures.value ∙ c.in_ok-push_over.ensures.bytes ∙ ap (λ (l : List ℕ). l ++ over) (c.in_ok-items.ensures.items ∙ own) in
     let is = joined-packed d r c.args.between.now c.as_slice.result.now c.as_slice-2.result.now content c.push_over.ensures.content c.requires.kinds c.requires.between before items in
-    let number : c.self.inside.count + c.count_over.result ≡ length all.items = omega (arith, count, c.count_over.ensures c.args.between.now, ap (λ (b : Bool). length (taken_over b c.args.between.now r.first r.items)) c.requires.kinds, length-append d.items (taken_over d.leaf c.args.between.now r.first r.items)) in
+    let number : c.self.inside.count + c.count_over.result ≡ length all.items = omega (arith, count, c.count_over.ensures c.args.between.now, ap (λ (b : Kind). length (taken_over b c.args.between.now r.first r.items)) c.requires.kinds, length-append d.items (taken_over d.kind c.args.between.now r.first r.items)) in
     let same = held d all c.as_slice-2.result.now (c.self.inside.count + c.count_over.result) refl refl refl is number in
     subst (λ (e : Content). IfOk c.divide.result (λ s. IsSplit d e s.left s.right s.between)) same.0 c.divide.ensures.split
 
@@ -113,12 +114,12 @@ returns-clause-bytes c =
     let count : c.self.inside.count ≡ length d.items = c.self.invariant.count_is ∙ ap (λ (e : Content). length e.items) c.self.view_is in
     let all : Content = joined d c.args.between.now r in
     let content : IsContent d = subst IsContent c.self.view_is c.self.invariant.content in
-    let own = own-packed c.self.inside.leaf c.self.inside.key c.self.inside.first c.self.inside.count c.self.inside.items.now d c.self.invariant c.self.view_is in
-    let before = c.as_slice.ensures.value ∙ c.in_ok-before.ensures ∙ ap (entry_before d.items) count in
-    let over : List ℕ = packed (width r.leaf) c.as_slice.result.now (taken_over r.leaf c.args.between.now r.first r.items) in
-    let items : c.as_slice-2.result.now ≡ packed (width d.leaf) [] d.items ++ over = c.as_slice-2.ensures.value ∙ c.in_ok-push_over.ensures.bytes ∙ ap (λ (l : List ℕ). l ++ over) (c.in_ok-items.ensures.items ∙ own) in
+    let own = own-packed c.self.inside.kind c.self.inside.key c.self.inside.first c.self.inside.count c.self.inside.items.now d c.self.invariant c.self.view_is in
+    let before = c.as_slice.ensures.value ∙ c.in_ok-before.ensures.entry ∙ ap (entry_before d.items) count in
+    let over : List ℕ = packed (width r.kind) c.as_slice.result.now (taken_over r.kind c.args.between.now r.first r.items) in
+    let items : c.as_slice-2.result.now ≡ packed (width d.kind) [] d.items ++ over = c.as_slice-2.ensures.value ∙ c.in_ok-push_over.ensures.bytes ∙ ap (λ (l : List ℕ). l ++ over) (c.in_ok-items.ensures.items ∙ own) in
     let is = joined-packed d r c.args.between.now c.as_slice.result.now c.as_slice-2.result.now content c.push_over.ensures.content c.requires.kinds c.requires.between before items in
-    let number : c.self.inside.count + c.count_over.result ≡ length all.items = omega (arith, count, c.count_over.ensures c.args.between.now, ap (λ (b : Bool). length (taken_over b c.args.between.now r.first r.items)) c.requires.kinds, length-append d.items (taken_over d.leaf c.args.between.now r.first r.items)) in
+    let number : c.self.inside.count + c.count_over.result ≡ length all.items = omega (arith, count, c.count_over.ensures c.args.between.now, ap (λ (b : Kind). length (taken_over b c.args.between.now r.first r.items)) c.requires.kinds, length-append d.items (taken_over d.kind c.args.between.now r.first r.items)) in
     let same = held d all c.as_slice-2.result.now (c.self.inside.count + c.count_over.result) refl refl refl is number in
     let most : length (item_bytes all) ≤ 11224 = elim c.requires.low [
       | inl low ↦ omega (arith, joined-most d r c.args.between.now c.requires.kinds c.requires.between, c.push_over.ensures.content.size)

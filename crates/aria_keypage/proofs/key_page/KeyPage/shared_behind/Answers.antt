@@ -10,6 +10,6 @@ unfolding shared
 returns c =
     let d : Content = c.args.self.now in
     let count : c.self.inside.count ≡ length d.items = c.self.invariant.count_is ∙ ap (λ (e : Content). length e.items) c.self.view_is in
-    let ew = c.width_of.ensures ∙ ap (λ (e : Content). width e.leaf) c.self.view_is in
-    let is = packed-seen _ d c.width_of.result c.self.inside.items.now c.self.view_is c.self.invariant.packed ew in
+    let ew = c.width.ensures ∙ ap (λ (e : Content). width e.kind) c.self.view_is in
+    let is = packed-seen _ d c.width.result c.self.inside.items.now c.self.view_is c.self.invariant.packed ew in
     c.capped.ensures ∙ ap (min 255) (c.met_at-met.ensures.met d.items is (omega arith) ∙ ap (λ (n : ℕ). common (entry_before d.items n) c.args.entry.now) count)

@@ -9,12 +9,12 @@ use Rattle.aria_keypage.proofs.Divided.{first-size, own-packed, shortened, short
 use Rattle.aria_keypage.proofs.key_page.KeyPage.shorten.Goals as goal
 
 pub overflow_add-first : goal.overflow_add-first
-overflow_add-first c = omega (arith, c.first_size-first.ensures, first-size c.args.self.now.leaf c.args.self.now.first, c.lower-same.ensures, c.requires.room)
+overflow_add-first c = omega (arith, c.first_size-first.ensures, first-size c.args.self.now.kind c.args.self.now.first, c.lower-same.ensures, c.requires.room)
 
 pub patch-requires-clause-old : goal.patch-requires-clause-old
 patch-requires-clause-old c =
     let d : Content = c.args.self.now in
-    let own = own-packed c.self.inside.leaf c.self.inside.key c.self.inside.first c.self.inside.count c.self.inside.items.now d c.self.invariant c.self.view_is in
+    let own = own-packed c.self.inside.kind c.self.inside.key c.self.inside.first c.self.inside.count c.self.inside.items.now d c.self.invariant c.self.view_is in
     let content : IsContent d = subst IsContent c.self.view_is c.self.invariant.content in
     let new = c.in_ok-bytes.ensures.items ∙ c.part.ensures in
     let fits = short-fits d c.args.items.now c.self.inside.items.now c.in_ok-bytes.bytes.items c.args.size (length c.self.inside.items.now) c.first_size-first.result c.lower-same.result content own (omega arith) c.first_size-first.ensures c.lower-same.ensures c.requires.size c.requires.room new in
@@ -23,25 +23,25 @@ patch-requires-clause-old c =
 pub patch-requires-clause-new : goal.patch-requires-clause-new
 patch-requires-clause-new c =
     let d : Content = c.args.self.now in
-    let own = own-packed c.self.inside.leaf c.self.inside.key c.self.inside.first c.self.inside.count c.self.inside.items.now d c.self.invariant c.self.view_is in
+    let own = own-packed c.self.inside.kind c.self.inside.key c.self.inside.first c.self.inside.count c.self.inside.items.now d c.self.invariant c.self.view_is in
     let content : IsContent d = subst IsContent c.self.view_is c.self.invariant.content in
     let new = c.in_ok-bytes.ensures.items ∙ c.part.ensures in
     let fits = short-fits d c.args.items.now c.self.inside.items.now c.in_ok-bytes.bytes.items c.args.size (length c.self.inside.items.now) c.first_size-first.result c.lower-same.result content own (omega arith) c.first_size-first.ensures c.lower-same.ensures c.requires.size c.requires.room new in
     omega (arith, fits.1)
 
 pub returns-clause-page : goal.returns-clause-page
-returns-clause-page c a is leaf key first front =
+returns-clause-page c a is kind key first front =
     let d : Content = c.args.self.now in
-    let own = own-packed c.self.inside.leaf c.self.inside.key c.self.inside.first c.self.inside.count c.self.inside.items.now d c.self.invariant c.self.view_is in
+    let own = own-packed c.self.inside.kind c.self.inside.key c.self.inside.first c.self.inside.count c.self.inside.items.now d c.self.invariant c.self.view_is in
     let content : IsContent d = subst IsContent c.self.view_is c.self.invariant.content in
     let new = c.in_ok-bytes.ensures.items ∙ c.part.ensures in
-    let done = shortened d a c.args.items.now c.requires.begin.0 c.args.size (length c.self.inside.items.now) c.first_size-first.result c.lower-same.result c.in_ok-bytes.bytes.items content is leaf key first c.requires.begin.1 front c.requires.size (ap length own) c.first_size-first.ensures c.lower-same.ensures new in
+    let done = shortened d a c.args.items.now c.requires.begin.0 c.args.size (length c.self.inside.items.now) c.first_size-first.result c.lower-same.result c.in_ok-bytes.bytes.items content is kind key first c.requires.begin.1 front c.requires.size (ap length own) c.first_size-first.ensures c.lower-same.ensures new in
     ok-map c.patch.result (λ edits. edits ≡ patch (c.first_size-first.result + c.lower-same.result) (length c.self.inside.items.now - c.lower-same.result) 0 c.in_ok-bytes.bytes.items) _ (λ edits e. subst (λ (l : List Edit). Changes l d a) (sym e) done) c.patch.ensures
 
 pub returns-clause-bytes : goal.returns-clause-bytes
 returns-clause-bytes c =
     let d : Content = c.args.self.now in
-    let own = own-packed c.self.inside.leaf c.self.inside.key c.self.inside.first c.self.inside.count c.self.inside.items.now d c.self.invariant c.self.view_is in
+    let own = own-packed c.self.inside.kind c.self.inside.key c.self.inside.first c.self.inside.count c.self.inside.items.now d c.self.invariant c.self.view_is in
     let content : IsContent d = subst IsContent c.self.view_is c.self.invariant.content in
     let new = c.in_ok-bytes.ensures.items ∙ c.part.ensures in
     let fits = short-fits d c.args.items.now c.self.inside.items.now c.in_ok-bytes.bytes.items c.args.size (length c.self.inside.items.now) c.first_size-first.result c.lower-same.result content own (omega arith) c.first_size-first.ensures c.lower-same.ensures c.requires.size c.requires.room new in
