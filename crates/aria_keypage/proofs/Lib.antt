@@ -14,3 +14,4 @@ pub mod Joined
 pub mod Fitting
 pub mod Middle
 pub mod Divided
+pub mod Child

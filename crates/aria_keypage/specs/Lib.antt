@@ -7,3 +7,4 @@ pub mod Reading
 pub mod Change
 pub mod Merge
 pub mod Split
+pub mod Child

@@ -9,6 +9,7 @@ ghost use Rattle.aria_keypage.specs.declared.kind.Kind.TheVariants.{Node};
 ghost use Rattle.aria_keypage.specs.Item.{Item, item_at, entry_before, IsPlace};
 ghost use Rattle.aria_keypage.specs.Packed.{ArePacked, IsLeft};
 ghost use Rattle.aria_keypage.specs.Content.{Content, width, first_bytes, item_bytes, IsFirst, IsContent, Spells};
+ghost use Rattle.aria_keypage.specs.Child.{child_at};
 ghost use Rattle.aria_keypage.specs.Reading.{head_at, IsPageOf};
 
 use crate::find::find_in;
@@ -205,6 +206,18 @@ impl<'a> KeyPage<'a> {
         ensures fits { result < 256 ^ width self.now.kind }
     {
         target_of(self.kind, skip(self.items, self.kind.width(), at))
+    }
+
+    /// The child at a place of a node, from left to right: place 0 is that of the first child.
+    pub fn child_at(&self, at: usize) -> u32
+        requires kind { self.now.kind ≡ Node }
+        requires at { at ≤ length self.now.items }
+        ensures { result ≡ child_at self.now at }
+    {
+        if at == 0 {
+            return self.first;
+        }
+        self.target_at(at - 1) as u32
     }
 
     /// The place of the first entry that isn't below the given one, and whether they are the same.
