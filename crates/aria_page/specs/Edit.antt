@@ -2,13 +2,14 @@
 use Rattle.std.specs.Prelude.{◌≡◌, ℕ, ◌+◌, ◌≤◌, List, length, take, drop}
 use Rattle.aria_page.specs.declared.edit.Edit.{Edit}
 use Rattle.aria_page.specs.declared.edit.Edit.TheVariants.{Set, Shift, Whole}
+use Rattle.aria_page.specs.declared.page.TheConstants.{BODY_BYTES}
 use Rattle.aria_page.specs.Page.{with_bytes}
 
--- the edit stays within a body of 8181 bytes
+-- the edit stays within a body
 abbrev pub IsWithin : Edit → Type 0
-IsWithin (Set at bytes) = at + length bytes ≤ 8181
-IsWithin (Shift at len to) = (at + len ≤ 8181) × (to + len ≤ 8181)
-IsWithin (Whole body) = length body ≡ 8181
+IsWithin (Set at bytes) = at + length bytes ≤ BODY_BYTES
+IsWithin (Shift at len to) = (at + len ≤ BODY_BYTES) × (to + len ≤ BODY_BYTES)
+IsWithin (Whole body) = length body ≡ BODY_BYTES
 
 -- how many bytes the edit brings
 abbrev pub edit_bytes : Edit → ℕ

@@ -5,5 +5,6 @@ pub mod Number
 pub mod Lsn
 pub mod Crc
 pub mod Page
+pub mod PageKind
 pub mod Edit
 pub mod Text

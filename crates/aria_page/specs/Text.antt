@@ -8,9 +8,19 @@ use Rattle.aria_page.specs.Word.{is_word}
 unfoldable pub bytes_at : ℕ → List ℕ → Option (List ℕ × List ℕ)
 bytes_at n bytes = if nat_lt (length bytes) n then None else Some (take n bytes, drop n bytes)
 
+-- bytes behind n bytes with their number
+abbrev pub counted : ℕ → List ℕ → List ℕ
+counted n bytes = number n (length bytes) ++ bytes
+
+-- bytes behind n bytes with their number, and the bytes after them; nothing where the bytes run out
+unfoldable pub counted_at : ℕ → List ℕ → Option (List ℕ × List ℕ)
+counted_at n bytes = do
+  count ← number_at n bytes
+  bytes_at count.0 count.1
+
 -- 1 byte of length, and the bytes of the name
 unfoldable pub name_bytes : List ℕ → List ℕ
-name_bytes name = number 1 (length name) ++ name
+name_bytes name = counted 1 name
 
 -- a name and the bytes after it; nothing where the bytes run out, and where they spell no word
 unfoldable pub name_at : List ℕ → Option (List ℕ × List ℕ)

@@ -1,6 +1,7 @@
 -- Words: how tables, keys and columns are named.
 use Rattle.std.specs.Prelude.{ℕ, Bool, false, ◌&&◌, ◌||◌, ◌==◌, nat_le, List, [], ◌∷◌, length}
 use Rattle.std.specs.List.{list_all}
+use Rattle.aria_page.specs.declared.name.TheConstants.{NAME_BYTES}
 
 -- a letter or _
 abbrev pub begins_word : ℕ → Bool
@@ -17,4 +18,4 @@ begins_as_word (b ∷ bs) = begins_word b
 
 -- a letter or _, then letters, digits and _, at most 64 bytes in all
 abbrev pub is_word : List ℕ → Bool
-is_word bytes = begins_as_word bytes && list_all continues_word bytes && nat_le (length bytes) 64
+is_word bytes = begins_as_word bytes && list_all continues_word bytes && nat_le (length bytes) NAME_BYTES

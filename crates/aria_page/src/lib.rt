@@ -10,6 +10,7 @@
 //! calls that take an allocator or make a list longer.
 #![tactic(auto)]
 
+mod bytes;
 mod crc;
 mod crc_table;
 mod edit;
@@ -19,22 +20,27 @@ mod lsn;
 mod name;
 mod number;
 mod page;
+mod page_kind;
 mod place;
-mod text;
 
+pub use bytes::{
+    bytes_at, bytes_from, counted_u8_at, counted_u16_at, counted_u32_at, push_counted_u8,
+    push_counted_u16, push_counted_u32, same_bytes,
+};
 pub use crc::checksum;
 pub use edit::{Edit, EditFault, apply};
 pub use group::{Last, RedoKind};
 pub use list::{Bytes, List};
-pub use lsn::{LSN_BYTES, Lsn, lsn_at, lsn_of};
-pub use name::{Name, begins_word, continues_word};
+pub use lsn::{LSN_BYTES, Lsn, lsn_at, lsn_of, push_lsn};
+pub use name::{Name, begins_word, continues_word, name_at, push_name};
 pub use number::{
-    u8_at, u16_at, u16_bytes, u16_of, u24_at, u24_bytes, u24_of, u32_at, u32_bytes, u32_of, u40_at,
-    u40_bytes, u40_of, u64_at, u64_bytes, u64_of,
+    flag, push_u8, push_u16, push_u32, push_u40, push_u64, u8_at, u16_at, u16_bytes, u16_of,
+    u24_at, u24_bytes, u24_of, u32_at, u32_bytes, u32_of, u40_at, u40_bytes, u40_of, u64_at,
+    u64_bytes, u64_of,
 };
-pub use page::{BODY_AT, BODY_BYTES, PAGE_BYTES, Page, SUM_BYTES};
+pub use page::{BODY_AT, BODY_BYTES, LOG_BODY_AT, LOG_BODY_BYTES, PAGE_BYTES, Page, SUM_BYTES};
+pub use page_kind::PageKind;
 pub use place::{Part, Place, Places};
-pub use text::{bytes_at, bytes_from, name_at};
 
 #[cfg(test)]
 mod tests;

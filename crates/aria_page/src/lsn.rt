@@ -1,8 +1,11 @@
-ghost use Rattle.std.specs.Prelude.{◌≡◌, ◌≤◌, ◌↔◌, length, IsTrue};
+ghost use Rattle.std.specs.Prelude.{◌≡◌, ◌≤◌, ◌↔◌, ◌++◌, length, IsTrue, OnOk};
+ghost use Rattle.aria_page.specs.declared.lsn.TheConstants.{LSN_BYTES};
 ghost use Rattle.aria_page.specs.Field.{Gives};
 ghost use Rattle.aria_page.specs.Lsn.{IsLsn, lsn_bytes, lsn_of, lsn_at, IsBefore};
 
+use crate::list::Bytes;
 use crate::number::{u24_at, u24_bytes, u24_of, u32_at, u32_bytes, u32_of};
+use std::alloc::AllocError;
 
 /// The number of bytes that a log sequence number is stored in.
 pub const LSN_BYTES: usize = 7;
@@ -38,7 +41,7 @@ impl Lsn {
 /// The log sequence number in the first 7 bytes.
 #[tactic(auto, unfolding(crate::specs::Lsn::lsn_of))]
 pub fn lsn_of(bytes: &[u8]) -> Lsn
-    requires { 7 ≤ length bytes.now }
+    requires { LSN_BYTES ≤ length bytes.now }
     ensures value { result ≡ lsn_of bytes.now }
     ensures fits { IsLsn result }
 {
@@ -56,4 +59,11 @@ pub fn lsn_at(bytes: &[u8]) -> Option<(Lsn, &[u8])>
     let (file, rest) = u24_at(bytes)?;
     let (offset, rest) = u32_at(rest)?;
     Some((Lsn { file, offset }, rest))
+}
+
+/// Adds the bytes that a log sequence number is stored in.
+pub fn push_lsn(out: &mut Bytes, lsn: Lsn) -> Result<(), AllocError>
+    ensures { OnOk result (out.new ≡ out.old ++ lsn_bytes lsn) }
+{
+    out.extend_from_slice(&lsn.to_bytes())
 }

@@ -1,10 +1,17 @@
-ghost use Rattle.std.specs.Prelude.{◌≡◌, ◌≤◌, ◌-◌, ◌++◌, length, replicate, IfSome, IsSome, ◌↔◌, IsTrue, ◌==◌, refl};
+ghost use Rattle.std.specs.Prelude.{◌≡◌, ◌≤◌, ◌-◌, ◌++◌, length, replicate, IfSome, IsSome, OnOk, ◌↔◌, IsTrue, ◌==◌, refl};
 ghost use Rattle.std.specs.List.{list_all};
 ghost use Rattle.std.specs.Cmp.{partial_equiv_from_equiv, unsigned_ties};
 ghost use Rattle.std.specs.Cmp.Lexicographic.{slice_cmp, pointwise, nat_list_eq_equiv, nat_list_cmp_total, lists_ties, texts_po};
 ghost use Rattle.std.specs.Ordering.{nat_cmp, as_partial_cmp};
+ghost use Rattle.aria_page.specs.declared.name.TheConstants.{NAME_BYTES};
+ghost use Rattle.aria_page.specs.Field.{Gives};
+ghost use Rattle.aria_page.specs.Text.{name_bytes, name_at};
 ghost use Rattle.aria_page.specs.Word.{begins_word, continues_word, begins_as_word, is_word};
 
+use crate::bytes::{bytes_at, push_counted_u8};
+use crate::list::Bytes;
+use crate::number::u8_at;
+use std::alloc::AllocError;
 use std::cmp::Ordering;
 use std::marker::Model;
 
@@ -76,8 +83,8 @@ fn is_word(bytes: &[u8]) -> bool
 // The bytes, and zeros behind them.
 #[tactic(auto, using(crate::proofs::Padding::padded_more))]
 fn padded(bytes: &[u8]) -> [u8; NAME_BYTES]
-    requires { length bytes.now ≤ 64 }
-    ensures { result ≡ bytes.now ++ replicate (64 - length bytes.now) 0 }
+    requires { length bytes.now ≤ NAME_BYTES }
+    ensures { result ≡ bytes.now ++ replicate (NAME_BYTES - length bytes.now) 0 }
 {
     let mut all = [0; NAME_BYTES];
     for (i, byte) in bytes.iter().enumerate() {
@@ -145,4 +152,24 @@ impl PartialOrd for Name {
     fn partial_cmp(&self, other: &Name) -> Option<Ordering> {
         Some(self.cmp(other))
     }
+}
+
+/// The name in front, and the bytes after it; `None` where no name stands there.
+#[tactic(auto, unfolding(crate::specs::Text::name_at))]
+pub fn name_at(bytes: &[u8]) -> Option<(Name, &[u8])>
+    ensures { Gives (λ x. (x.0, x.1.now)) result (name_at bytes.now) }
+{
+    let (len, rest) = u8_at(bytes)?;
+    let (word, rest) = bytes_at(rest, len as usize)?;
+    let name = Name::read(word)?;
+    Some((name, rest))
+}
+
+/// Adds the bytes that a name is stored in: 1 byte of length, and the word.
+#[tactic(auto, unfolding(crate::specs::Text::name_bytes))]
+pub fn push_name(out: &mut Bytes, name: &Name) -> Result<(), AllocError>
+    ensures spelled { OnOk result (out.new ≡ out.old ++ name_bytes name.now) }
+    ensures word { IsTrue (is_word name.now) }
+{
+    push_counted_u8(out, name.as_slice())
 }

@@ -1,13 +1,23 @@
 //! Numbers as they are stored: a fixed number of bytes, the highest first (docs/FORMATS.md).
 //!
 //! `u32_of` gives the number that stands in front, `u32_at` tests whether there is one and also gives the
-//! bytes after it, and `u32_bytes` stores a number; and so for the other sizes.
+//! bytes after it, `u32_bytes` gives the bytes of a number and `push_u32` adds them to others; and so for the
+//! other sizes.
 
-ghost use Rattle.std.specs.Prelude.{◌≡◌, ◌≤◌, ◌<◌, ◌^◌, length, IfSome};
+ghost use Rattle.std.specs.Prelude.{◌≡◌, ◌≤◌, ◌<◌, ◌^◌, ◌++◌, length, IfSome, OnOk, if◌then◌else◌};
 ghost use Rattle.aria_page.specs.Field.{Gives};
 ghost use Rattle.aria_page.specs.Number.{number, number_of, number_at};
 
+use crate::list::Bytes;
 use byteorder::{BigEndian, ByteOrder};
+use std::alloc::AllocError;
+
+/// The byte that a flag is stored in.
+pub fn flag(holds: bool) -> u8
+    ensures { result ≡ (if holds then 1 else 0) }
+{
+    if holds { 1 } else { 0 }
+}
 
 /// The number in the first 2 bytes.
 #[tactic(auto, unfolding(crate::specs::Number::number_of))]
@@ -164,4 +174,40 @@ pub fn u64_bytes(n: u64) -> [u8; 8]
     ensures { result ≡ number 8 n }
 {
     n.to_be_bytes()
+}
+
+/// Adds the byte that a number is stored in.
+#[tactic(auto, unfolding(crate::specs::Number::number))]
+pub fn push_u8(out: &mut Bytes, n: u8) -> Result<(), AllocError>
+    ensures { OnOk result (out.new ≡ out.old ++ number 1 n) }
+{
+    out.push(n)
+}
+
+/// Adds the 2 bytes that a number is stored in.
+pub fn push_u16(out: &mut Bytes, n: u16) -> Result<(), AllocError>
+    ensures { OnOk result (out.new ≡ out.old ++ number 2 n) }
+{
+    out.extend_from_slice(&u16_bytes(n))
+}
+
+/// Adds the 4 bytes that a number is stored in.
+pub fn push_u32(out: &mut Bytes, n: u32) -> Result<(), AllocError>
+    ensures { OnOk result (out.new ≡ out.old ++ number 4 n) }
+{
+    out.extend_from_slice(&u32_bytes(n))
+}
+
+/// Adds the 5 bytes that a number below 2^40 is stored in; of another its lowest 5 bytes.
+pub fn push_u40(out: &mut Bytes, n: u64) -> Result<(), AllocError>
+    ensures { OnOk result (out.new ≡ out.old ++ number 5 n) }
+{
+    out.extend_from_slice(&u40_bytes(n))
+}
+
+/// Adds the 8 bytes that a number is stored in.
+pub fn push_u64(out: &mut Bytes, n: u64) -> Result<(), AllocError>
+    ensures { OnOk result (out.new ≡ out.old ++ number 8 n) }
+{
+    out.extend_from_slice(&u64_bytes(n))
 }

@@ -1,12 +1,13 @@
 ghost use Rattle.std.specs.Prelude.{◌≡◌, ◌+◌, ◌≤◌, ◌↔◌, length, take, drop, IsTrue, ◌==◌};
 ghost use Rattle.std.specs.List.{list_all};
 ghost use Rattle.aria_page.specs.Lsn.{IsLsn};
+ghost use Rattle.aria_page.specs.declared.page.TheConstants.{PAGE_BYTES, BODY_BYTES};
 ghost use Rattle.aria_page.specs.Page.{with_bytes, zero_page, page_body, page_lsn, Sums, IsSound, summed, sealed};
 
+use crate::bytes::bytes_from;
 use crate::crc::checksum;
 use crate::lsn::{LSN_BYTES, Lsn, lsn_of};
 use crate::number::{u32_bytes, u32_of};
-use crate::text::bytes_from;
 use std::marker::Model;
 
 /// The size of a page, in bytes.
@@ -20,6 +21,12 @@ pub const BODY_AT: usize = SUM_BYTES + LSN_BYTES;
 
 /// The size of a page's body, in bytes.
 pub const BODY_BYTES: usize = PAGE_BYTES - BODY_AT;
+
+/// The place of the body in a page of the log.
+pub const LOG_BODY_AT: usize = 16;
+
+/// The size of the body of a page of the log, in bytes.
+pub const LOG_BODY_BYTES: usize = PAGE_BYTES - LOG_BODY_AT;
 
 /// A page: its checksum, its log sequence number and its body (docs/FORMATS.md).
 #[derive(Clone, Copy, Debug)]
@@ -61,7 +68,7 @@ impl Page {
     /// All bytes of the page.
     pub fn bytes(&self) -> &[u8]
         ensures value { result.now ≡ self.now }
-        ensures len { length self.now ≡ 8192 }
+        ensures len { length self.now ≡ PAGE_BYTES }
     {
         &self.bytes
     }
@@ -69,21 +76,21 @@ impl Page {
     /// Puts the bytes into the page from this place on. Nothing else changes, not even the checksum.
     #[tactic(auto, unfolding(crate::specs::Page::with_bytes))]
     pub fn put(&mut self, at: usize, bytes: &[u8])
-        requires { at + length bytes.now ≤ 8192 }
+        requires { at + length bytes.now ≤ PAGE_BYTES }
         ensures bytes { self.new ≡ with_bytes at bytes.now self.old }
-        ensures len_before { length self.old ≡ 8192 }
-        ensures len { length self.new ≡ 8192 }
+        ensures len_before { length self.old ≡ PAGE_BYTES }
+        ensures len { length self.new ≡ PAGE_BYTES }
     {
         self.bytes[at..at + bytes.len()].copy_from_slice(bytes);
     }
 
     /// Copies the bytes from a place, as they stand, to another. Nothing else changes.
     pub fn copy_within(&mut self, at: usize, len: usize, to: usize)
-        requires from { at + len ≤ 8192 }
-        requires to { to + len ≤ 8192 }
+        requires from { at + len ≤ PAGE_BYTES }
+        requires to { to + len ≤ PAGE_BYTES }
         ensures bytes { self.new ≡ with_bytes to (take len (drop at self.old)) self.old }
-        ensures len_before { length self.old ≡ 8192 }
-        ensures len { length self.new ≡ 8192 }
+        ensures len_before { length self.old ≡ PAGE_BYTES }
+        ensures len { length self.new ≡ PAGE_BYTES }
     {
         self.bytes.copy_within(at..at + len, to);
     }
@@ -92,7 +99,7 @@ impl Page {
     #[tactic(auto, unfolding(crate::specs::Page::page_body))]
     pub fn body(&self) -> &[u8]
         ensures value { result.now ≡ page_body self.now }
-        ensures len { length result.now ≡ 8181 }
+        ensures len { length result.now ≡ BODY_BYTES }
     {
         bytes_from(self.bytes(), BODY_AT)
     }
@@ -125,7 +132,7 @@ impl Page {
     pub fn sum(&mut self)
         ensures bytes { self.new ≡ summed self.old }
         ensures sums { Sums self.new }
-        ensures len { length self.new ≡ 8192 }
+        ensures len { length self.new ≡ PAGE_BYTES }
     {
         let sum = checksum(bytes_from(self.bytes(), SUM_BYTES));
         self.put(0, &u32_bytes(sum));
@@ -137,7 +144,7 @@ impl Page {
         ensures sums { Sums self.new }
         ensures lsn { IsLsn lsn → page_lsn self.new ≡ lsn }
         ensures body { page_body self.new ≡ page_body self.old }
-        ensures len { length self.new ≡ 8192 }
+        ensures len { length self.new ≡ PAGE_BYTES }
     {
         self.put(SUM_BYTES, &lsn.to_bytes());
         self.sum();
