@@ -8,3 +8,4 @@ pub mod CrcBlock
 pub mod Pages
 pub mod Edits
 pub mod Texts
+pub mod Items

@@ -1,5 +1,5 @@
 -- Bytes and names that are read are those that were stored, and what was stored is read again.
-use Rattle.std.proofs.Common.{◌≡◌, ℕ, ◌<◌, ◌≤◌, Bool, true, false, cond, ltb, List, ◌++◌, length, take, drop, Some, None, refl, sym, ap, subst, ◌∙◌, append_assoc, arith}
+use Rattle.std.proofs.Common.{◌≡◌, ℕ, ◌<◌, ◌≤◌, ◌^◌, Bool, true, false, cond, ltb, List, ◌++◌, length, take, drop, Some, None, refl, sym, ap, subst, ◌∙◌, append_assoc, arith}
 use Rattle.std.specs.Prelude.{IsTrue, ◌&&◌, nat_le}
 use Rattle.std.specs.List.{list_all}
 use Rattle.std.proofs.lemmas.Bool.{ltb-false, le-ltb, leb-true}
@@ -8,7 +8,7 @@ use Rattle.std.proofs.lemmas.Option.{cond_some, same_Some}
 use Rattle.aria_page.specs.Field.{◌>>=◌, AreBytes, Takes}
 use Rattle.aria_page.specs.Number.{number, number_at}
 use Rattle.aria_page.specs.Word.{begins_as_word, continues_word, is_word}
-use Rattle.aria_page.specs.Text.{bytes_at, name_bytes, name_at}
+use Rattle.aria_page.specs.Text.{bytes_at, counted, counted_at, name_bytes, name_at}
 use Rattle.aria_page.proofs.Fields.{AreBytes-drop, bind_some, guard_some, Takes-then}
 use Rattle.aria_page.proofs.Numbers.{number_takes, number_again}
 
@@ -27,6 +27,23 @@ unfolding bytes_at
 bytes_again n text rest len =
     let long : ltb (length (text ++ rest)) n ≡ false = le-ltb _ _ (omega (arith, length-append text rest)) in
     rw (long, take_at text rest n len, drop_at text rest n len) refl
+
+-- counted bytes that are read stand in front
+pub counted_takes : (n : ℕ) (bytes : List ℕ) (x : List ℕ × List ℕ) → AreBytes bytes → counted_at n bytes ≡ Some x → Takes bytes (counted n x.0) x.1 × (length x.0 < 256 ^ n)
+unfolding counted_at
+counted_takes n bytes x fits e =
+    let a = bind_some (number_at n bytes) (λ count. bytes_at count.0 count.1) x e in
+    let first = number_takes n bytes a.0 fits a.1 in
+    let second = bytes_take a.0.0 a.0.1 x first.0.rest_bytes a.2 in
+    let both = Takes-then bytes (number n a.0.0) a.0.1 x.0 x.1 first.0 second.0 in
+    (subst (λ (k : ℕ). Takes bytes (number n k ++ x.0) x.1) (sym second.1) both, subst (λ (k : ℕ). k < 256 ^ n) (sym second.1) first.1)
+
+-- counted bytes are read again, and what follows is left
+pub counted_again : (n : ℕ) (text rest : List ℕ) → length text < 256 ^ n → counted_at n (counted n text ++ rest) ≡ Some (text, rest)
+unfolding counted_at
+counted_again n text rest low =
+    ap (counted_at n) (append_assoc (number n (length text)) text rest)
+    ∙ rw (number_again n (length text) (text ++ rest) low, bytes_again (length text) text rest refl) refl
 
 -- a name that is read is spelled by the bytes in front
 pub name_takes : (bytes : List ℕ) (x : List ℕ × List ℕ) → AreBytes bytes → name_at bytes ≡ Some x → Takes bytes (name_bytes x.0) x.1 × IsTrue (is_word x.0)

@@ -8,3 +8,4 @@ pub mod Page
 pub mod PageKind
 pub mod Edit
 pub mod Text
+pub mod Items

@@ -15,13 +15,12 @@ use Rattle.aria_page.specs.Edit.{IsWithin}
 use Rattle.aria_page.specs.Field.{AreBytes, Takes}
 use Rattle.aria_page.specs.Number.{number, number_at}
 use Rattle.aria_page.specs.Lsn.{IsLsn, lsn_bytes, lsn_at}
-use Rattle.aria_page.specs.Text.{bytes_at, name_bytes, name_at}
+use Rattle.aria_page.specs.Text.{bytes_at, name_bytes, name_at, counted_at}
 use Rattle.aria_page.specs.Word.{is_word}
 use Rattle.aria_page.proofs.Fields.{AreBytes-rest}
 use Rattle.aria_page.proofs.Texts.{bytes_take, bytes_again}
-use Rattle.aria_value.specs.Stored.{list_bytes}
-use Rattle.aria_value.specs.Reading.{read_list, read_counted}
-use Rattle.aria_value.proofs.Items.{Reads}
+use Rattle.aria_page.specs.Items.{list_bytes, list_at}
+use Rattle.aria_page.proofs.Items.{Reads}
 use Rattle.aria_record.specs.declared.record.Dirty.{Dirty}
 use Rattle.aria_record.specs.Spelled.{part_bytes, place_bytes, tail_bytes, places_bytes, edit_bytes, dirty_bytes, table_number}
 use Rattle.aria_record.specs.Groups.{PlaceFits, TailFits, PlacesFit, DirtyFits}
@@ -180,8 +179,8 @@ set_meant (Whole body) h = absurd (omega (arith, h.1))
 set_read : Reads behind_kind (OfKind 0) read_set
 unfolding read_set
 set_read =
-    as_read (λ x. number 2 x.0 ++ (number 2 (length x.1) ++ x.1)) (λ x. (x.0 < 256 ^ 2) × (length x.1 < 256 ^ 2)) (read_both (number_at 2) (read_counted 2)) behind_kind (OfKind 0) (λ x. fitting (Set x.0 x.1))
-    (both_read (number 2) (λ n. n < 256 ^ 2) (number_at 2) (λ text. number 2 (length text) ++ text) (λ text. length text < 256 ^ 2) (read_counted 2) (number_read 2) (counted_read 2)) (record {
+    as_read (λ x. number 2 x.0 ++ (number 2 (length x.1) ++ x.1)) (λ x. (x.0 < 256 ^ 2) × (length x.1 < 256 ^ 2)) (read_both (number_at 2) (counted_at 2)) behind_kind (OfKind 0) (λ x. fitting (Set x.0 x.1))
+    (both_read (number 2) (λ n. n < 256 ^ 2) (number_at 2) (λ text. number 2 (length text) ++ text) (λ text. length text < 256 ^ 2) (counted_at 2) (number_read 2) (counted_read 2)) (record {
       found = λ x edit fits e. fitting_found (Set x.0 x.1) edit e;
       meant = set_meant;
     })
@@ -260,7 +259,7 @@ edits_meant (edit ∷ edits) fits = some_is edit edits
 pub edits_read : Reads (list_bytes edit_bytes) EditsFit read_edits
 unfolding read_edits
 edits_read =
-    as_read (list_bytes edit_bytes) (λ edits. (length edits < 256 ^ 1) × AllByRecursion IsWithin edits) (read_list read_edit) (list_bytes edit_bytes) EditsFit some_edits (list_read edit_bytes IsWithin read_edit edit_read) (record {
+    as_read (list_bytes edit_bytes) (λ edits. (length edits < 256 ^ 1) × AllByRecursion IsWithin edits) (list_at read_edit) (list_bytes edit_bytes) EditsFit some_edits (list_read edit_bytes IsWithin read_edit edit_read) (record {
       found = edits_found;
       meant = λ edits fits. (edits, fits.1, edits_meant edits fits, refl);
     })

@@ -8,15 +8,14 @@ use Rattle.std.proofs.lemmas.Option.{same_Some, cond_some}
 use Rattle.aria_page.specs.Field.{◌>>=◌, AreBytes, Takes}
 use Rattle.aria_page.specs.Number.{number, number_at}
 use Rattle.aria_page.specs.Lsn.{IsLsn, lsn_bytes, lsn_at}
-use Rattle.aria_page.specs.Text.{name_bytes, name_at}
+use Rattle.aria_page.specs.Text.{name_bytes, name_at, counted_at}
 use Rattle.aria_page.specs.Word.{is_word}
 use Rattle.aria_page.proofs.Fields.{bind_some, Takes-then}
 use Rattle.aria_page.proofs.Numbers.{number_takes, number_again}
 use Rattle.aria_page.proofs.StoredLsn.{lsn_takes, lsn_again}
-use Rattle.aria_page.proofs.Texts.{name_takes, name_again}
-use Rattle.aria_value.specs.Stored.{list_bytes}
-use Rattle.aria_value.specs.Reading.{read_items, read_list, read_counted}
-use Rattle.aria_value.proofs.Items.{Reader, Reads, items_take, items_again, counted_takes, counted_again}
+use Rattle.aria_page.proofs.Texts.{name_takes, name_again, counted_takes, counted_again}
+use Rattle.aria_page.specs.Items.{list_bytes, items_at, list_at}
+use Rattle.aria_page.proofs.Items.{Reader, Reads, items_take, items_again}
 use Rattle.aria_record.specs.Spelled.{dirty_bytes}
 use Rattle.aria_record.specs.Groups.{DirtyFits}
 use Rattle.aria_record.specs.Reading.{read_both, read_as, read_whole, read_dirty, read_dirties}
@@ -32,7 +31,7 @@ name_read = record { takes = name_takes; again = name_again }
 pub lsn_read : Reads lsn_bytes IsLsn lsn_at
 lsn_read = record { takes = lsn_takes; again = lsn_again }
 
-pub counted_read : (n : ℕ) → Reads (λ text. number n (length text) ++ text) (λ text. length text < 256 ^ n) (read_counted n)
+pub counted_read : (n : ℕ) → Reads (λ text. number n (length text) ++ text) (λ text. length text < 256 ^ n) (counted_at n)
 counted_read n = record { takes = counted_takes n; again = counted_again n }
 
 -- ---- readers put together
@@ -108,22 +107,22 @@ whole_again sa fa ra la a fits = rw (← append-nil (sa a), la.again a [] fits) 
 -- ---- items behind their number
 
 many_take : {A : Type 0} (n : ℕ) (spell : A → List ℕ) (Fits : A → Type 0) (read : Reader A) → Reads spell Fits read → (bytes : List ℕ) (x : List A × List ℕ) → AreBytes bytes
-    → (number_at n bytes >>= λ count. read_items read count.0 count.1) ≡ Some x → Takes bytes (number n (length x.0) ++ flat_map spell x.0) x.1 × ((length x.0 < 256 ^ n) × AllByRecursion Fits x.0)
+    → (number_at n bytes >>= λ count. items_at read count.0 count.1) ≡ Some x → Takes bytes (number n (length x.0) ++ flat_map spell x.0) x.1 × ((length x.0 < 256 ^ n) × AllByRecursion Fits x.0)
 many_take n spell Fits read laws bytes x fits e =
-    let a = bind_some (number_at n bytes) (λ count. read_items read count.0 count.1) x e in
+    let a = bind_some (number_at n bytes) (λ count. items_at read count.0 count.1) x e in
     let first = number_takes n bytes a.0 fits a.1 in
     let second = items_take spell Fits read laws a.0.0 a.0.1 x first.0.rest_bytes a.2 in
     let both = Takes-then bytes (number n a.0.0) a.0.1 (flat_map spell x.0) x.1 first.0 second.spelled in
     (subst (λ (k : ℕ). Takes bytes (number n k ++ flat_map spell x.0) x.1) (sym second.count) both, (subst (λ (k : ℕ). k < 256 ^ n) (sym second.count) first.1, second.each))
 
 many_again : {A : Type 0} (n : ℕ) (spell : A → List ℕ) (Fits : A → Type 0) (read : Reader A) → Reads spell Fits read → (items : List A) (rest : List ℕ) → (length items < 256 ^ n) × AllByRecursion Fits items
-    → (number_at n ((number n (length items) ++ flat_map spell items) ++ rest) >>= λ count. read_items read count.0 count.1) ≡ Some (items, rest)
+    → (number_at n ((number n (length items) ++ flat_map spell items) ++ rest) >>= λ count. items_at read count.0 count.1) ≡ Some (items, rest)
 many_again n spell Fits read laws items rest fits =
-    ap (λ (l : List ℕ). number_at n l >>= λ count. read_items read count.0 count.1) (append_assoc (number n (length items)) (flat_map spell items) rest)
+    ap (λ (l : List ℕ). number_at n l >>= λ count. items_at read count.0 count.1) (append_assoc (number n (length items)) (flat_map spell items) rest)
     ∙ rw (number_again n (length items) (flat_map spell items ++ rest) fits.0) (items_again spell Fits read laws items rest fits.1)
 
-pub list_read : {A : Type 0} (spell : A → List ℕ) (Fits : A → Type 0) (read : Reader A) → Reads spell Fits read → Reads (list_bytes spell) (λ items. (length items < 256 ^ 1) × AllByRecursion Fits items) (read_list read)
-unfolding read_list
+pub list_read : {A : Type 0} (spell : A → List ℕ) (Fits : A → Type 0) (read : Reader A) → Reads spell Fits read → Reads (list_bytes spell) (λ items. (length items < 256 ^ 1) × AllByRecursion Fits items) (list_at read)
+unfolding list_at
 list_read spell Fits read laws = record { takes = many_take 1 spell Fits read laws; again = many_again 1 spell Fits read laws }
 
 pub dirties_read : (laws : Reads dirty_bytes DirtyFits read_dirty) → Reads (λ items. number 4 (length items) ++ flat_map dirty_bytes items) (λ items. (length items < 256 ^ 4) × AllByRecursion DirtyFits items) read_dirties

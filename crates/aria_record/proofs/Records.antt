@@ -9,11 +9,13 @@ use Rattle.aria_page.specs.declared.group.RedoKind.{RedoKind}
 use Rattle.aria_page.specs.declared.group.RedoKind.TheVariants as kinds
 use Rattle.aria_page.specs.Field.{◌>>=◌, AreBytes, Takes}
 use Rattle.aria_page.specs.Number.{number, number_at}
-use Rattle.aria_page.specs.Text.{name_at}
+use Rattle.aria_page.specs.Text.{name_at, counted_at}
 use Rattle.aria_page.proofs.Fields.{AreBytes-take, AreBytes-drop, bind_some, Takes-then}
 use Rattle.aria_page.proofs.Numbers.{number_takes, number_again}
-use Rattle.aria_value.specs.Reading.{read_list, read_counted, read_definition}
-use Rattle.aria_value.proofs.Items.{Reads, counted_takes, counted_again}
+use Rattle.aria_value.specs.Reading.{read_definition}
+use Rattle.aria_page.proofs.Texts.{counted_takes, counted_again}
+use Rattle.aria_page.specs.Items.{list_at}
+use Rattle.aria_page.proofs.Items.{Reads}
 use Rattle.aria_record.specs.declared.record.Record.{Record}
 use Rattle.aria_record.specs.declared.record.Record.TheVariants.{Redo, UndoRowInsert, UndoRowDelete, UndoKeyInsert, UndoKeyDelete, ClrEnd, Commit, Checkpoint, CreateTable, DropTable, RepairTable}
 use Rattle.aria_record.specs.Spelled.{redo_number, kind_number, body_bytes, record_bytes, content_bytes, group_bytes}
@@ -190,8 +192,8 @@ behind_bytes head text rest bytes fits e =
 record_takes : (bytes : List ℕ) (x : Record × List ℕ) → AreBytes bytes → read_record bytes ≡ Some x → Takes bytes (record_bytes x.0) x.1 × RecordFits x.0
 unfolding read_record
 record_takes bytes x fits e =
-    let a = bind_some (number_at 1 bytes) (λ kind. read_counted 4 kind.1 >>= λ body. read_body kind.0 body.0 >>= λ r. Some (r, body.1)) x e in
-    let b = bind_some (read_counted 4 a.0.1) (λ body. read_body a.0.0 body.0 >>= λ r. Some (r, body.1)) x a.2 in
+    let a = bind_some (number_at 1 bytes) (λ kind. counted_at 4 kind.1 >>= λ body. read_body kind.0 body.0 >>= λ r. Some (r, body.1)) x e in
+    let b = bind_some (counted_at 4 a.0.1) (λ body. read_body a.0.0 body.0 >>= λ r. Some (r, body.1)) x a.2 in
     let c = bind_some (read_body a.0.0 b.0.0) (λ r. Some (r, b.0.1)) x b.2 in
     let first = number_takes 1 bytes a.0 fits a.1 in
     let second = counted_takes 4 a.0.1 b.0 first.0.rest_bytes b.1 in
@@ -254,7 +256,7 @@ record Content (bytes : List ℕ) (group : List Record) : Type 0 where
 content_takes : (bytes : List ℕ) (group : List Record) → AreBytes bytes → read_content bytes ≡ Some group → Content bytes group
 unfolding read_content
 content_takes bytes group fits e =
-    let a = bind_some (read_whole (read_list read_record) bytes) (λ g. cond (is_group g) (Some g) None) group e in
+    let a = bind_some (read_whole (list_at read_record) bytes) (λ g. cond (is_group g) (Some g) None) group e in
     let t = cond_some (is_group a.0) a.0 group a.2 in
     let w = whole_takes _ _ _ (list_read record_bytes RecordFits read_record records_read) bytes a.0 fits a.1 in
     subst (Content bytes) t.1 (record { spelled = w.0; few = w.1.0; each = w.1.1; shape = t.0 })
@@ -266,7 +268,7 @@ content_again group is = rw (whole_again _ _ _ (list_read record_bytes RecordFit
 group_takes : (bytes : List ℕ) (x : List Record × List ℕ) → AreBytes bytes → read_group bytes ≡ Some x → (bytes ≡ group_bytes x.0 ++ x.1) × IsGroup x.0
 unfolding read_group
 group_takes bytes x fits e =
-    let a = bind_some (read_counted 4 bytes) (λ content. read_content content.0 >>= λ group. Some (group, content.1)) x e in
+    let a = bind_some (counted_at 4 bytes) (λ content. read_content content.0 >>= λ group. Some (group, content.1)) x e in
     let b = bind_some (read_content a.0.0) (λ group. Some (group, a.0.1)) x a.2 in
     let first = counted_takes 4 bytes a.0 fits a.1 in
     let content = content_takes a.0.0 b.0 (behind_bytes (number 4 (length a.0.0)) a.0.0 a.0.1 bytes fits first.0.parts) b.1 in

@@ -12,8 +12,9 @@ use Rattle.aria_page.specs.declared.place.Places.{Places}
 use Rattle.aria_page.specs.Field.{◌>>=◌}
 use Rattle.aria_page.specs.Number.{number_at}
 use Rattle.aria_page.specs.Lsn.{lsn_at}
-use Rattle.aria_page.specs.Text.{bytes_at, name_at}
-use Rattle.aria_value.specs.Reading.{read_items, read_list, read_counted, read_definition}
+use Rattle.aria_page.specs.Text.{bytes_at, name_at, counted_at}
+use Rattle.aria_page.specs.Items.{items_at, list_at}
+use Rattle.aria_value.specs.Reading.{read_definition}
 use Rattle.aria_record.specs.declared.record.Dirty.{Dirty}
 use Rattle.aria_record.specs.declared.record.Record.{Record}
 use Rattle.aria_record.specs.declared.record.Record.TheVariants.{Redo, UndoRowInsert, UndoRowDelete, UndoKeyInsert, UndoKeyDelete, ClrEnd, Commit, Checkpoint, CreateTable, DropTable, RepairTable}
@@ -97,7 +98,7 @@ abbrev pub fitting : Edit → Option Edit
 fitting edit = if is_within edit then Some edit else None
 
 unfoldable pub read_set : List ℕ → Option (Edit × List ℕ)
-read_set = read_as (λ x. fitting (Set x.0 x.1)) (read_both (number_at 2) (read_counted 2))
+read_set = read_as (λ x. fitting (Set x.0 x.1)) (read_both (number_at 2) (counted_at 2))
 
 unfoldable pub read_shift : List ℕ → Option (Edit × List ℕ)
 read_shift = read_as (λ x. fitting (Shift x.0 x.1.0 x.1.1)) (read_both (number_at 2) (read_both (number_at 2) (number_at 2)))
@@ -117,7 +118,7 @@ abbrev pub some_edits : List Edit → Option (List Edit)
 some_edits edits = if length edits == 0 then None else Some edits
 
 unfoldable pub read_edits : List ℕ → Option (List Edit × List ℕ)
-read_edits = read_as some_edits (read_list read_edit)
+read_edits = read_as some_edits (list_at read_edit)
 
 -- ---- parts of entries
 
@@ -144,7 +145,7 @@ read_dirty = read_as dirty_of (read_both name_at (read_both read_part (read_both
 unfoldable pub read_dirties : List ℕ → Option (List Dirty × List ℕ)
 read_dirties bytes = do
   count ← number_at 4 bytes
-  read_items read_dirty count.0 count.1
+  items_at read_dirty count.0 count.1
 
 -- whether a table is plain, and its format
 abbrev pub table_of : ℕ → Option (Bool × ℕ)
@@ -263,7 +264,7 @@ read_body kind body = read_known (redo_kind kind) kind body
 unfoldable pub read_record : List ℕ → Option (Record × List ℕ)
 read_record bytes = do
   kind ← number_at 1 bytes
-  body ← read_counted 4 kind.1
+  body ← counted_at 4 kind.1
   r ← read_body kind.0 body.0
   Some (r, body.1)
 
@@ -272,13 +273,13 @@ read_record bytes = do
 -- the entries that bytes spell behind their number
 unfoldable pub read_content : List ℕ → Option (List Record)
 read_content bytes = do
-  group ← read_whole (read_list read_record) bytes
+  group ← read_whole (list_at read_record) bytes
   if is_group group then Some group else None
 
 -- the group in front and the bytes after it
 unfoldable pub read_group : List ℕ → Option (List Record × List ℕ)
 read_group bytes = do
-  content ← read_counted 4 bytes
+  content ← counted_at 4 bytes
   group ← read_content content.0
   Some (group, content.1)
 

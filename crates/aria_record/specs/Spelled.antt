@@ -13,7 +13,7 @@ use Rattle.aria_page.specs.Number.{number}
 use Rattle.aria_page.specs.declared.lsn.Lsn.{Lsn}
 use Rattle.aria_page.specs.Lsn.{lsn_bytes}
 use Rattle.aria_page.specs.Text.{name_bytes}
-use Rattle.aria_value.specs.Stored.{list_bytes}
+use Rattle.aria_page.specs.Items.{list_bytes}
 use Rattle.aria_record.specs.declared.record.Dirty.{Dirty}
 use Rattle.aria_record.specs.declared.record.Record.{Record}
 use Rattle.aria_record.specs.declared.record.Record.TheVariants.{Redo, UndoRowInsert, UndoRowDelete, UndoKeyInsert, UndoKeyDelete, ClrEnd, Commit, Checkpoint, CreateTable, DropTable, RepairTable}

@@ -2,16 +2,17 @@
 
 ghost use Rattle.std.specs.Prelude.{◌≡◌, IfOk};
 ghost use Rattle.aria_page.specs.Field.{Gives};
-ghost use Rattle.aria_value.specs.Reading.{read_counted, read_items, read_list};
+ghost use Rattle.aria_page.specs.Items.{items_at, list_at};
+ghost use Rattle.aria_page.specs.Text.{counted_at};
 ghost use Rattle.aria_record.specs.Reading.{read_set, read_shift, read_body_edit, read_edit, read_edits};
 
 use aria_page::{BODY_BYTES, Edit, List, bytes_at, u8_at, u16_at};
 use std::alloc::{AllocError, Global};
 
 // Bytes behind 2 bytes with their number, and the bytes after them.
-#[tactic(auto, unfolding(aria_value::specs::Reading::read_counted))]
+#[tactic(auto, unfolding(aria_page::specs::Text::counted_at))]
 fn counted_at(bytes: &[u8]) -> Option<(&[u8], &[u8])>
-    ensures { Gives (λ x. (x.0.now, x.1.now)) result (read_counted 2 bytes.now) }
+    ensures { Gives (λ x. (x.0.now, x.1.now)) result (counted_at 2 bytes.now) }
 {
     let (count, rest) = u16_at(bytes)?;
     bytes_at(rest, count as usize)
@@ -82,7 +83,7 @@ fn edits_from(
     count: u8,
     bytes: &[u8],
 ) -> Result<Option<(List<Edit>, &[u8])>, AllocError>
-    ensures { IfOk result (λ r. Gives (λ x. (x.0, x.1.now)) r (read_items read_edit count bytes.now)) }
+    ensures { IfOk result (λ r. Gives (λ x. (x.0, x.1.now)) r (items_at read_edit count bytes.now)) }
 {
     let mut edits = List::new(alloc);
     let mut rest = bytes;
@@ -98,9 +99,9 @@ fn edits_from(
     Ok(Some((edits, rest)))
 }
 
-#[tactic(auto, unfolding(aria_value::specs::Reading::read_list))]
+#[tactic(auto, unfolding(aria_page::specs::Items::list_at))]
 fn all_edits_at(alloc: Global, bytes: &[u8]) -> Result<Option<(List<Edit>, &[u8])>, AllocError>
-    ensures { IfOk result (λ r. Gives (λ x. (x.0, x.1.now)) r (read_list read_edit bytes.now)) }
+    ensures { IfOk result (λ r. Gives (λ x. (x.0, x.1.now)) r (list_at read_edit bytes.now)) }
 {
     match u8_at(bytes) {
         None => Ok(None),

@@ -2,7 +2,9 @@
 
 ghost use Rattle.std.specs.Prelude.{◌≡◌, IfOk, is_some};
 ghost use Rattle.aria_page.specs.Field.{Gives};
-ghost use Rattle.aria_value.specs.Reading.{read_counted, read_items, read_definition};
+ghost use Rattle.aria_page.specs.Items.{items_at};
+ghost use Rattle.aria_page.specs.Text.{counted_at};
+ghost use Rattle.aria_value.specs.Reading.{read_definition};
 ghost use Rattle.aria_record.specs.Reading.{read_dirty, read_dirties, redo_kind, read_redo, read_row_insert, read_row_delete, read_key_insert, read_key_delete, read_clr_end, read_commit, read_checkpoint, read_table_head, read_create, read_drop, read_repair, read_other, read_body, read_record};
 
 use crate::edits::edits_at;
@@ -175,7 +177,7 @@ fn dirties_from(
     count: u32,
     bytes: &[u8],
 ) -> Result<Option<(List<Dirty>, &[u8])>, AllocError>
-    ensures { IfOk result (λ r. Gives (λ x. (x.0, x.1.now)) r (read_items read_dirty count bytes.now)) }
+    ensures { IfOk result (λ r. Gives (λ x. (x.0, x.1.now)) r (items_at read_dirty count bytes.now)) }
 {
     let mut dirty = List::new(alloc);
     let mut rest = bytes;
@@ -323,9 +325,9 @@ fn body_of(alloc: Global, kind: u8, body: &[u8]) -> Result<Option<Record>, Alloc
 }
 
 // Bytes behind 4 bytes with their number, and the bytes after them.
-#[tactic(auto, unfolding(aria_value::specs::Reading::read_counted))]
+#[tactic(auto, unfolding(aria_page::specs::Text::counted_at))]
 pub(crate) fn counted_at(bytes: &[u8]) -> Option<(&[u8], &[u8])>
-    ensures { Gives (λ x. (x.0.now, x.1.now)) result (read_counted 4 bytes.now) }
+    ensures { Gives (λ x. (x.0.now, x.1.now)) result (counted_at 4 bytes.now) }
 {
     let (count, rest) = u32_at(bytes)?;
     bytes_at(rest, count as usize)

@@ -2,7 +2,7 @@
 
 ghost use Rattle.std.specs.Prelude.{◌≡◌, ◌++◌, List as Seq, [], ℕ, length, IfOk, IfSome};
 ghost use Rattle.aria_page.specs.Field.{Gives};
-ghost use Rattle.aria_value.specs.Reading.{read_items, read_list};
+ghost use Rattle.aria_page.specs.Items.{items_at, list_at};
 ghost use Rattle.aria_record.specs.declared.record.Record.{Record as AnyRecord};
 ghost use Rattle.aria_record.specs.Groups.{is_redo, is_last, is_edited, is_alone, is_group, IsGroup, IsInFront};
 ghost use Rattle.aria_record.specs.Spelled.{group_bytes};
@@ -70,7 +70,7 @@ fn records_from(
     count: u8,
     bytes: &[u8],
 ) -> Result<Option<(List<Record>, &[u8])>, AllocError>
-    ensures { IfOk result (λ r. Gives (λ x. (x.0, x.1.now)) r (read_items read_record count bytes.now)) }
+    ensures { IfOk result (λ r. Gives (λ x. (x.0, x.1.now)) r (items_at read_record count bytes.now)) }
 {
     let mut records = List::new(alloc);
     let mut rest = bytes;
@@ -86,9 +86,9 @@ fn records_from(
     Ok(Some((records, rest)))
 }
 
-#[tactic(auto, unfolding(aria_value::specs::Reading::read_list))]
+#[tactic(auto, unfolding(aria_page::specs::Items::list_at))]
 fn records_at(alloc: Global, bytes: &[u8]) -> Result<Option<(List<Record>, &[u8])>, AllocError>
-    ensures { IfOk result (λ r. Gives (λ x. (x.0, x.1.now)) r (read_list read_record bytes.now)) }
+    ensures { IfOk result (λ r. Gives (λ x. (x.0, x.1.now)) r (list_at read_record bytes.now)) }
 {
     match u8_at(bytes) {
         None => Ok(None),

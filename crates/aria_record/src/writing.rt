@@ -6,7 +6,7 @@ ghost use Rattle.aria_page.specs.Number.{number};
 ghost use Rattle.aria_page.specs.Edit.{IsWithin};
 ghost use Rattle.aria_page.specs.Lsn.{lsn_bytes};
 ghost use Rattle.aria_page.specs.Text.{name_bytes};
-ghost use Rattle.aria_value.specs.Stored.{list_bytes};
+ghost use Rattle.aria_page.specs.Items.{list_bytes};
 ghost use Rattle.aria_record.specs.Spelled.{part_bytes, place_bytes, tail_bytes, places_bytes, edit_bytes, dirty_bytes, redo_number, kind_number, table_number, row_head, key_head, body_bytes, record_bytes, content_bytes, group_bytes};
 ghost use Rattle.aria_record.specs.Groups.{BodyFits, RecordFits};
 

@@ -6,11 +6,12 @@ use Rattle.std.proofs.lemmas.Bool.{eqb-true, eq-eqb, leb-true, and_parts, or_cas
 use Rattle.std.proofs.lemmas.List.{drop_at, take_at, drop-drop, length-append, length-replicate, drop-replicate}
 use Rattle.std.proofs.lemmas.Option.{same_Some}
 use Rattle.aria_page.specs.declared.lsn.Lsn.{Lsn}
+use Rattle.aria_page.specs.declared.page.TheConstants.{PAGE_BYTES, BODY_AT, BODY_BYTES}
 use Rattle.aria_page.specs.Field.{◌>>=◌, AreBytes}
 use Rattle.aria_page.specs.Number.{number, number_of}
 use Rattle.aria_page.specs.Lsn.{IsLsn, lsn_bytes, lsn_of}
 use Rattle.aria_page.specs.Page.{with_bytes, zero_page, page_body}
-use Rattle.aria_page.specs.Text.{bytes_at}
+use Rattle.aria_page.specs.Text.{bytes_at, counted}
 use Rattle.aria_page.proofs.Fields.{AreBytes-drop, AreBytes-take, bind_some}
 use Rattle.aria_page.proofs.Numbers.{length-number, number_of-lt, number_of-number}
 use Rattle.aria_page.proofs.StoredLsn.{length-lsn_bytes, lsn_of-lsn_bytes}
@@ -171,40 +172,41 @@ new_again d plain created format rest is names lsn known =
 
 -- ---- pages
 
-length-zero_page : length zero_page ≡ 8192
+length-zero_page : length zero_page ≡ PAGE_BYTES
 unfolding zero_page
-length-zero_page = length-replicate {A = ℕ} 8192 0
+length-zero_page = length-replicate {A = ℕ} PAGE_BYTES 0
 
-zeros_behind : (n : ℕ) → drop n zero_page ≡ replicate (8192 - n) 0
+zeros_behind : (n : ℕ) → drop n zero_page ≡ replicate (PAGE_BYTES - n) 0
 unfolding zero_page
-zeros_behind n = drop-replicate n 8192 0
+zeros_behind n = drop-replicate n PAGE_BYTES 0
 
 -- the bytes stand at the beginning of the body, and zeros behind them
-pub new_page_body : (bytes : List ℕ) (created : Lsn) → page_body (new_page bytes created) ≡ bytes ++ replicate (8192 - (11 + length bytes)) 0
+pub new_page_body : (bytes : List ℕ) (created : Lsn) → page_body (new_page bytes created) ≡ bytes ++ replicate (BODY_BYTES - length bytes) 0
 unfolding new_page page_body
 new_page_body bytes created =
-    page_body-sealed created (with_bytes 11 bytes zero_page)
-    ∙ drop-with_bytes 11 (11 + length bytes) bytes zero_page (omega (arith, length-zero_page)) refl
-    ∙ ap (λ (l : List ℕ). bytes ++ l) (zeros_behind (11 + length bytes))
+    let left : PAGE_BYTES - (BODY_AT + length bytes) ≡ BODY_BYTES - length bytes = omega arith in
+    page_body-sealed created (with_bytes BODY_AT bytes zero_page)
+    ∙ drop-with_bytes BODY_AT (BODY_AT + length bytes) bytes zero_page (omega (arith, length-zero_page)) refl
+    ∙ ap (λ (l : List ℕ). bytes ++ l) (zeros_behind (BODY_AT + length bytes) ∙ ap (λ (n : ℕ). replicate n 0) left)
 
 -- ---- what the calls give
 
 -- the parts of a header, written one after another
-pub header_spelled : (d : Definition) (plain : Bool) (created : Lsn) (format : ℕ) (o o1 o2 o3 o4 lsn stored text : List ℕ) → o ≡ [] → o1 ≡ o ++ new_front plain format → o2 ≡ o1 ++ lsn → lsn ≡ lsn_bytes created
-    → o3 ≡ o2 ++ new_fields plain → o4 ≡ o3 ++ (number 2 (length text) ++ text) → text ≡ stored → stored ≡ definition_bytes d → o4 ≡ new_header_bytes d plain created format
+pub header_spelled : (d : Definition) (plain : Bool) (created : Lsn) (format : ℕ) (o o1 o2 o3 o4 stored text : List ℕ) → o ≡ [] → o1 ≡ o ++ new_front plain format → o2 ≡ o1 ++ lsn_bytes created
+    → o3 ≡ o2 ++ new_fields plain → o4 ≡ o3 ++ counted 2 text → text ≡ stored → stored ≡ definition_bytes d → o4 ≡ new_header_bytes d plain created format
 unfolding new_header_bytes
-header_spelled d plain created format o o1 o2 o3 o4 lsn stored text e0 e1 e2 el e3 e4 et es =
+header_spelled d plain created format o o1 o2 o3 o4 stored text e0 e1 e2 e3 e4 et es =
     let front : List ℕ = new_front plain format in
     let fields : List ℕ = new_fields plain in
-    let counted : List ℕ = counted_definition d in
+    let stored_part : List ℕ = counted_definition d in
     let s1 : o1 ≡ front = e1 ∙ ap (λ (l : List ℕ). l ++ front) e0 in
-    let s2 : o2 ≡ front ++ lsn_bytes created = e2 ∙ ap (λ (l : List ℕ). l ++ lsn) s1 ∙ ap (λ (l : List ℕ). front ++ l) el in
+    let s2 : o2 ≡ front ++ lsn_bytes created = e2 ∙ ap (λ (l : List ℕ). l ++ lsn_bytes created) s1 in
     let s3 : o3 ≡ (front ++ lsn_bytes created) ++ fields = e3 ∙ ap (λ (l : List ℕ). l ++ fields) s2 in
-    let s4 : o4 ≡ ((front ++ lsn_bytes created) ++ fields) ++ counted = e4 ∙ ap (λ (l : List ℕ). l ++ (number 2 (length text) ++ text)) s3 ∙ ap (λ (l : List ℕ). ((front ++ lsn_bytes created) ++ fields) ++ (number 2 (length l) ++ l)) (et ∙ es) in
-    s4 ∙ append_assoc (front ++ lsn_bytes created) fields counted ∙ append_assoc front (lsn_bytes created) (fields ++ counted)
+    let s4 : o4 ≡ ((front ++ lsn_bytes created) ++ fields) ++ stored_part = e4 ∙ ap (λ (l : List ℕ). l ++ counted 2 text) s3 ∙ ap (λ (l : List ℕ). ((front ++ lsn_bytes created) ++ fields) ++ counted 2 l) (et ∙ es) in
+    s4 ∙ append_assoc (front ++ lsn_bytes created) fields stored_part ∙ append_assoc front (lsn_bytes created) (fields ++ stored_part)
 
 -- a new header fits a body
-pub header_short : (d : Definition) (plain : Bool) (created : Lsn) (format : ℕ) (bytes : List ℕ) → IsDefinition d → HasNames d → bytes ≡ new_header_bytes d plain created format → length bytes ≤ 8181
+pub header_short : (d : Definition) (plain : Bool) (created : Lsn) (format : ℕ) (bytes : List ℕ) → IsDefinition d → HasNames d → bytes ≡ new_header_bytes d plain created format → length bytes ≤ BODY_BYTES
 unfolding new_header_bytes
 header_short d plain created format bytes is names e =
     let text : List ℕ = definition_bytes d in

@@ -1,5 +1,4 @@
-pub mod Items
-pub mod RowOf
+pub mod RowChecks
 pub mod StoredRows
 pub mod Definitions
 pub mod StoredDefinitions
@@ -7,3 +6,4 @@ pub mod Ordering
 pub mod Entries
 pub mod KeptRows
 pub mod Headers
+pub mod Naming

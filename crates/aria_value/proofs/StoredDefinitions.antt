@@ -8,20 +8,21 @@ use Rattle.std.proofs.lemmas.List.Elements.{recursion_from_All}
 use Rattle.std.proofs.lemmas.Option.{same_Some, cond_some}
 use Rattle.aria_page.specs.Field.{◌>>=◌, AreBytes, Takes}
 use Rattle.aria_page.specs.Number.{number, number_at}
-use Rattle.aria_page.specs.Text.{name_bytes, name_at}
+use Rattle.aria_page.specs.Text.{name_bytes, name_at, counted_at}
 use Rattle.aria_page.specs.Word.{is_word}
 use Rattle.aria_page.proofs.Fields.{bind_some, Takes-then}
 use Rattle.aria_page.proofs.Numbers.{length-number, number-one, number_takes, number_again}
-use Rattle.aria_page.proofs.Texts.{word_length, name_takes, name_again}
+use Rattle.aria_page.proofs.Texts.{word_length, name_takes, name_again, counted_takes, counted_again}
 use Rattle.aria_value.specs.declared.definition.ColumnType.{ColumnType}
 use Rattle.aria_value.specs.declared.definition.ColumnType.TheVariants.{Int, Text}
 use Rattle.aria_value.specs.declared.definition.Column.{Column}
 use Rattle.aria_value.specs.declared.definition.Key.{Key}
 use Rattle.aria_value.specs.declared.definition.Definition.{Definition}
-use Rattle.aria_value.specs.Stored.{type_bytes, column_bytes, key_bytes, list_bytes, definition_bytes}
+use Rattle.aria_value.specs.Stored.{type_bytes, column_bytes, key_bytes, definition_bytes}
 use Rattle.aria_value.specs.Defined.{same_name, distinct, is_type, is_key, is_definition, IsDefinition, HasNames}
-use Rattle.aria_value.specs.Reading.{type_of, read_type, read_column, read_counted, read_key, read_list, read_parts, read_definition}
-use Rattle.aria_value.proofs.Items.{Reads, list_takes, list_again, counted_takes, counted_again}
+use Rattle.aria_value.specs.Reading.{type_of, read_type, read_column, read_key, read_parts, read_definition}
+use Rattle.aria_page.specs.Items.{list_bytes, list_at}
+use Rattle.aria_page.proofs.Items.{Reads, list_takes, list_again}
 use Rattle.aria_value.proofs.Definitions.{AllKeysFew, keys_few, definition_is, is_definition_of}
 
 -- ---- a byte in front
@@ -101,8 +102,8 @@ record KeyFits (key : Key) : Type 0 where
 key_takes : (bytes : List ℕ) (x : Key × List ℕ) → AreBytes bytes → read_key bytes ≡ Some x → Takes bytes (key_bytes x.0) x.1 × KeyFits x.0
 unfolding read_key
 key_takes bytes x fits e =
-    let a = bind_some (name_at bytes) (λ name. read_counted 1 name.1 >>= λ columns. Some (record { name = name.0; columns = columns.0 }, columns.1)) x e in
-    let b = bind_some (read_counted 1 a.0.1) (λ columns. Some (record { name = a.0.0; columns = columns.0 }, columns.1)) x a.2 in
+    let a = bind_some (name_at bytes) (λ name. counted_at 1 name.1 >>= λ columns. Some (record { name = name.0; columns = columns.0 }, columns.1)) x e in
+    let b = bind_some (counted_at 1 a.0.1) (λ columns. Some (record { name = a.0.0; columns = columns.0 }, columns.1)) x a.2 in
     let first = name_takes bytes a.0 fits a.1 in
     let second = counted_takes 1 a.0.1 b.0 first.0.rest_bytes b.1 in
     let both = Takes-then bytes (name_bytes a.0.0) a.0.1 (number 1 (length b.0.0) ++ b.0.0) b.0.1 first.0 second.0 in
@@ -127,8 +128,8 @@ record PartsFit (d : Definition) : Type 0 where
 parts_take : (bytes : List ℕ) (x : Definition × List ℕ) → AreBytes bytes → read_parts bytes ≡ Some x → Takes bytes (definition_bytes x.0) x.1 × PartsFit x.0
 unfolding read_parts
 parts_take bytes x fits e =
-    let a = bind_some (read_list read_column bytes) (λ columns. read_list read_key columns.1 >>= λ keys. number_at 4 keys.1 >>= λ max_rows. Some (record { columns = columns.0; keys = keys.0; max_rows = max_rows.0 }, max_rows.1)) x e in
-    let b = bind_some (read_list read_key a.0.1) (λ keys. number_at 4 keys.1 >>= λ max_rows. Some (record { columns = a.0.0; keys = keys.0; max_rows = max_rows.0 }, max_rows.1)) x a.2 in
+    let a = bind_some (list_at read_column bytes) (λ columns. list_at read_key columns.1 >>= λ keys. number_at 4 keys.1 >>= λ max_rows. Some (record { columns = columns.0; keys = keys.0; max_rows = max_rows.0 }, max_rows.1)) x e in
+    let b = bind_some (list_at read_key a.0.1) (λ keys. number_at 4 keys.1 >>= λ max_rows. Some (record { columns = a.0.0; keys = keys.0; max_rows = max_rows.0 }, max_rows.1)) x a.2 in
     let c = bind_some (number_at 4 b.0.1) (λ max_rows. Some (record { columns = a.0.0; keys = b.0.0; max_rows = max_rows.0 }, max_rows.1)) x b.2 in
     let first = list_takes column_bytes ColumnFits read_column columns_read bytes a.0 fits a.1 in
     let second = list_takes key_bytes KeyFits read_key keys_read a.0.1 b.0 first.0.rest_bytes b.1 in

@@ -21,8 +21,11 @@ use Rattle.aria_value.specs.declared.definition.Definition.{Definition}
 use Rattle.aria_value.specs.Order.{key_columns}
 use Rattle.aria_value.specs.Stored.{value_bytes, row_bytes, value_length, row_length, text_length}
 use Rattle.aria_value.specs.Rows.{may_hold, may_hold_all, is_row, Fits, IsRow}
-use Rattle.aria_value.specs.Reading.{read_items, read_int, read_counted, read_value, read_row}
-use Rattle.aria_value.proofs.Items.{Reads, items_take, items_again, counted_takes, counted_again}
+use Rattle.aria_value.specs.Reading.{read_int, read_value, read_row}
+use Rattle.aria_page.proofs.Texts.{counted_takes, counted_again}
+use Rattle.aria_page.specs.Text.{counted_at}
+use Rattle.aria_page.specs.Items.{items_at}
+use Rattle.aria_page.proofs.Items.{Reads, items_take, items_again}
 
 -- ---- numbers
 
@@ -66,7 +69,7 @@ value_takes (suc zero ∷ bytes) x fits e =
     let made : Value × List ℕ = (Int a.0.0, a.0.1) in
     subst (λ (y : Value × List ℕ). Takes (1 ∷ bytes) (value_bytes y.0) y.1 × Stores y.0) (same_Some made x a.2) (behind 1 bytes (number 8 (cast_unsigned w64 a.0.0)) a.0.1 t.0, record { fits = t.1; text = lit< tt })
 value_takes (suc (suc zero) ∷ bytes) x fits e =
-    let a = bind_some (read_counted 4 bytes) (λ text. Some (Text text.0, text.1)) x e in
+    let a = bind_some (counted_at 4 bytes) (λ text. Some (Text text.0, text.1)) x e in
     let t = counted_takes 4 bytes a.0 (AreBytes-rest 2 bytes fits) a.1 in
     let made : Value × List ℕ = (Text a.0.0, a.0.1) in
     subst (λ (y : Value × List ℕ). Takes (2 ∷ bytes) (value_bytes y.0) y.1 × Stores y.0) (same_Some made x a.2) (behind 2 bytes (number 4 (length a.0.0) ++ a.0.0) a.0.1 t.0, record { fits = tt; text = t.1 })
@@ -124,7 +127,7 @@ held_number keyed nth (c ∷ columns) (v ∷ values) e =
 pub row_takes : (d : Definition) (bytes : List ℕ) (row : List Value) → AreBytes bytes → read_row d bytes ≡ Some row → IsRow d row × (bytes ≡ row_bytes row)
 unfolding read_row
 row_takes d bytes row fits e =
-    let a = bind_some (read_items read_value (length d.columns) bytes) (λ x. cond (eqb (length x.1) 0 && is_row d x.0) (Some x.0) None) row e in
+    let a = bind_some (items_at read_value (length d.columns) bytes) (λ x. cond (eqb (length x.1) 0 && is_row d x.0) (Some x.0) None) row e in
     let g = cond_some (eqb (length a.0.1) 0 && is_row d a.0.0) a.0.0 row a.2 in
     let tests = and_parts (eqb (length a.0.1) 0) (is_row d a.0.0) g.0 in
     let items = items_take value_bytes Stores read_value values_read (length d.columns) bytes a.0 fits a.1 in
@@ -138,7 +141,7 @@ row_again d row is =
     let tests = and_parts (may_hold_all (key_columns d.keys 0) 0 d.columns row) (nat_le (row_length row) 65536) is.is in
     let stores = all_store row is.fits (leb-true _ _ tests.1) in
     let number = held_number (key_columns d.keys 0) 0 d.columns row tests.0 in
-    let all : read_items read_value (length row) (row_bytes row) ≡ Some (row, []) = ap (read_items read_value (length row)) (sym (append-nil (row_bytes row))) ∙ items_again value_bytes Stores read_value values_read row [] stores in
+    let all : items_at read_value (length row) (row_bytes row) ≡ Some (row, []) = ap (items_at read_value (length row)) (sym (append-nil (row_bytes row))) ∙ items_again value_bytes Stores read_value values_read row [] stores in
     rw (← number, all, is.is) refl
 
 -- what a reading gave

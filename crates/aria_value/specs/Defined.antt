@@ -1,23 +1,15 @@
 -- Which definitions there are.
-use Rattle.std.specs.Prelude.{ℕ, zero, suc, ◌+◌, ◌*◌, Bool, true, not, ◌&&◌, nat_lt, nat_le, ◌==◌, List, [], ◌∷◌, length, sum_by, IsTrue}
-use Rattle.std.specs.List.{list_all, list_any, AllByRecursion}
-use Rattle.std.specs.Cmp.Lexicographic.{pointwise}
+use Rattle.std.specs.Prelude.{ℕ, zero, suc, ◌+◌, ◌*◌, Bool, true, ◌&&◌, nat_lt, nat_le, ◌==◌, List, [], ◌∷◌, length, sum_by, IsTrue}
+use Rattle.std.specs.List.{list_all, AllByRecursion}
 use Rattle.aria_page.specs.Word.{is_word}
 use Rattle.aria_value.specs.declared.definition.ColumnType.{ColumnType}
 use Rattle.aria_value.specs.declared.definition.ColumnType.TheVariants.{Int, Text}
 use Rattle.aria_value.specs.declared.definition.Column.{Column}
 use Rattle.aria_value.specs.declared.definition.Key.{Key}
 use Rattle.aria_value.specs.declared.definition.Definition.{Definition}
+use Rattle.aria_value.specs.declared.definition.TheConstants.{MAX_COLUMNS, MAX_KEYS, MAX_ENTRY_BYTES, MAX_TEXT_BYTES, MAX_ROWS}
+pub use Rattle.aria_value.specs.Named.{same_name, distinct}
 use Rattle.aria_value.specs.Order.{key_columns, order_columns}
-
--- two names are one
-abbrev pub same_name : List ℕ → List ℕ → Bool
-same_name = pointwise ◌==◌
-
--- no two are the same
-abbrev pub distinct : {A : Type 0} → (A → A → Bool) → List A → Bool
-distinct same [] = true
-distinct same (x ∷ xs) = not (list_any (same x) xs) && distinct same xs
 
 -- what a column holds; past the columns it is nothing longer than a number
 abbrev pub kind_at : List Column → ℕ → ColumnType
@@ -39,33 +31,33 @@ abbrev pub longest_entry : Definition → ℕ → ℕ
 longest_entry d key = sum_by (λ c. longest_part (kind_at d.columns c)) (order_columns d key)
 
 abbrev pub are_columns : List Column → Bool
-are_columns columns = nat_le 1 (length columns) && nat_le (length columns) 32 && distinct (λ a b. same_name a.name b.name) columns
+are_columns columns = nat_le 1 (length columns) && nat_le (length columns) MAX_COLUMNS && distinct (λ a b. same_name a.name b.name) columns
 
 abbrev pub is_type : ColumnType → Bool
 is_type Int = true
-is_type (Text n) = nat_le 1 n && nat_le n 65535
+is_type (Text n) = nat_le 1 n && nat_le n MAX_TEXT_BYTES
 
 -- a key has columns, each one of the table's and none twice
 abbrev pub is_key : List Column → Key → Bool
 is_key columns key = nat_le 1 (length key.columns) && list_all (λ c. nat_lt c (length columns)) key.columns && distinct ◌==◌ key.columns
 
 abbrev pub are_keys : List Column → List Key → Bool
-are_keys columns keys = nat_le 1 (length keys) && nat_le (length keys) 8 && distinct (λ a b. same_name a.name b.name) keys && list_all (is_key columns) keys
+are_keys columns keys = nat_le 1 (length keys) && nat_le (length keys) MAX_KEYS && distinct (λ a b. same_name a.name b.name) keys && list_all (is_key columns) keys
 
--- each key below n has entries of at most 1000 bytes
+-- each key below n has entries that are short enough
 abbrev pub entries_fit : Definition → ℕ → Bool
 entries_fit d zero = true
-entries_fit d (suc n) = entries_fit d n && nat_le (longest_entry d n) 1000
+entries_fit d (suc n) = entries_fit d n && nat_le (longest_entry d n) MAX_ENTRY_BYTES
 
 -- whether a table may have the definition
 abbrev pub is_definition : Definition → Bool
 is_definition d =
-    nat_le 1 d.max_rows && nat_le d.max_rows 16777216 && are_columns d.columns && list_all (λ column. is_type column.kind) d.columns
+    nat_le 1 d.max_rows && nat_le d.max_rows MAX_ROWS && are_columns d.columns && list_all (λ column. is_type column.kind) d.columns
     && are_keys d.columns d.keys && entries_fit d (length d.keys)
 
 -- a definition that a table may have
 pub record IsDefinition (d : Definition) : Type 0 where
-  pub rows : IsTrue (nat_le 1 d.max_rows && nat_le d.max_rows 16777216)
+  pub rows : IsTrue (nat_le 1 d.max_rows && nat_le d.max_rows MAX_ROWS)
   pub columns : IsTrue (are_columns d.columns)
   pub types : IsTrue (list_all (λ column. is_type column.kind) d.columns)
   pub keys : IsTrue (are_keys d.columns d.keys)

@@ -1,3 +1,4 @@
+pub mod Named
 pub mod Order
 pub mod Stored
 pub mod Rows

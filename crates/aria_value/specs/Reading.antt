@@ -3,7 +3,8 @@ use Rattle.std.specs.Prelude.{ℕ, ℤ, zero, suc, List, [], ◌∷◌, length, 
 use Rattle.std.specs.Int.{w64, cast_signed}
 use Rattle.aria_page.specs.Field.{◌>>=◌}
 use Rattle.aria_page.specs.Number.{number_at}
-use Rattle.aria_page.specs.Text.{bytes_at, name_at}
+use Rattle.aria_page.specs.Text.{counted_at, name_at}
+use Rattle.aria_page.specs.Items.{items_at, list_at}
 use Rattle.aria_value.specs.declared.value.Value.{Value}
 use Rattle.aria_value.specs.declared.value.Value.TheVariants.{Null, Int, Text}
 use Rattle.aria_value.specs.declared.definition.ColumnType.{ColumnType}
@@ -13,26 +14,6 @@ use Rattle.aria_value.specs.declared.definition.Key.{Key}
 use Rattle.aria_value.specs.declared.definition.Definition.{Definition}
 use Rattle.aria_value.specs.Rows.{is_row}
 use Rattle.aria_value.specs.Defined.{is_definition}
-
--- so many items one after another, and the bytes after them
-unfoldable pub read_items : {A : Type 0} → (List ℕ → Option (A × List ℕ)) → ℕ → List ℕ → Option (List A × List ℕ)
-read_items read zero bytes = Some ([], bytes)
-read_items read (suc n) bytes = do
-  first ← read bytes
-  others ← read_items read n first.1
-  Some (first.0 ∷ others.0, others.1)
-
--- items behind a byte with their number, and the bytes after them
-unfoldable pub read_list : {A : Type 0} → (List ℕ → Option (A × List ℕ)) → List ℕ → Option (List A × List ℕ)
-read_list read bytes = do
-  count ← number_at 1 bytes
-  read_items read count.0 count.1
-
--- bytes behind n bytes with their number, and the bytes after them
-unfoldable pub read_counted : ℕ → List ℕ → Option (List ℕ × List ℕ)
-read_counted n bytes = do
-  count ← number_at n bytes
-  bytes_at count.0 count.1
 
 -- a number with its sign, in two's complement, and the bytes after it
 unfoldable pub read_int : List ℕ → Option (ℤ × List ℕ)
@@ -48,14 +29,14 @@ read_value (suc zero ∷ rest) = do
   n ← read_int rest
   Some (Int n.0, n.1)
 read_value (suc (suc zero) ∷ rest) = do
-  text ← read_counted 4 rest
+  text ← counted_at 4 rest
   Some (Text text.0, text.1)
 read_value (suc (suc (suc kind)) ∷ rest) = None
 
 -- the row of the definition that the bytes spell, all of the bytes
 unfoldable pub read_row : Definition → List ℕ → Option (List Value)
 read_row d bytes = do
-  row ← read_items read_value (length d.columns) bytes
+  row ← items_at read_value (length d.columns) bytes
   if length row.1 == 0 && is_row d row.0 then Some row.0 else None
 
 -- the type that a byte and a limit spell
@@ -84,14 +65,14 @@ read_column bytes = do
 unfoldable pub read_key : List ℕ → Option (Key × List ℕ)
 read_key bytes = do
   name ← name_at bytes
-  columns ← read_counted 1 name.1
+  columns ← counted_at 1 name.1
   Some (record { name = name.0; columns = columns.0 }, columns.1)
 
 -- the parts of a definition and the bytes after them
 unfoldable pub read_parts : List ℕ → Option (Definition × List ℕ)
 read_parts bytes = do
-  columns ← read_list read_column bytes
-  keys ← read_list read_key columns.1
+  columns ← list_at read_column bytes
+  keys ← list_at read_key columns.1
   max_rows ← number_at 4 keys.1
   Some (record { columns = columns.0; keys = keys.0; max_rows = max_rows.0 }, max_rows.1)
 

@@ -8,6 +8,7 @@ use Rattle.aria_value.specs.declared.definition.ColumnType.{ColumnType}
 use Rattle.aria_value.specs.declared.definition.ColumnType.TheVariants.{Int, Text}
 use Rattle.aria_value.specs.declared.definition.Column.{Column}
 use Rattle.aria_value.specs.declared.definition.Definition.{Definition}
+use Rattle.aria_value.specs.declared.row.TheConstants.{MAX_ROW_BYTES}
 use Rattle.aria_value.specs.Order.{key_columns}
 use Rattle.aria_value.specs.Stored.{row_length}
 
@@ -26,9 +27,9 @@ may_hold_all keyed nth [] (v ∷ vs) = false
 may_hold_all keyed nth (c ∷ cs) [] = false
 may_hold_all keyed nth (c ∷ cs) (v ∷ vs) = may_hold (list_any (λ k. k == nth) keyed) c.kind v && may_hold_all keyed (nth + 1) cs vs
 
--- a row of the definition: the columns of the first key are keyed, and it is stored in at most 65536 bytes
+-- a row of the definition: the columns of the first key are keyed, and it is short enough as it is stored
 abbrev pub is_row : Definition → List Value → Bool
-is_row d row = may_hold_all (key_columns d.keys 0) 0 d.columns row && nat_le (row_length row) 65536
+is_row d row = may_hold_all (key_columns d.keys 0) 0 d.columns row && nat_le (row_length row) MAX_ROW_BYTES
 
 -- a number has 64 bits
 abbrev pub Fits : Value → Type 0

@@ -3,7 +3,8 @@ use Rattle.std.specs.Prelude.{ℕ, ◌+◌, List, [], ◌∷◌, ◌++◌, lengt
 use Rattle.std.specs.List.{flat_map}
 use Rattle.std.specs.Int.{w64, cast_unsigned}
 use Rattle.aria_page.specs.Number.{number}
-use Rattle.aria_page.specs.Text.{name_bytes}
+use Rattle.aria_page.specs.Text.{counted, name_bytes}
+use Rattle.aria_page.specs.Items.{list_bytes}
 use Rattle.aria_value.specs.declared.value.Value.{Value}
 use Rattle.aria_value.specs.declared.value.Value.TheVariants.{Null, Int, Text}
 use Rattle.aria_value.specs.declared.definition.ColumnType.{ColumnType}
@@ -16,7 +17,7 @@ use Rattle.aria_value.specs.declared.definition.Definition.{Definition}
 abbrev pub value_bytes : Value → List ℕ
 value_bytes Null = 0 ∷ []
 value_bytes (Int n) = 1 ∷ number 8 (cast_unsigned w64 n)
-value_bytes (Text bytes) = 2 ∷ (number 4 (length bytes) ++ bytes)
+value_bytes (Text bytes) = 2 ∷ counted 4 bytes
 
 -- the values one after another
 abbrev pub row_bytes : List Value → List ℕ
@@ -49,11 +50,7 @@ column_bytes column = name_bytes column.name ++ type_bytes column.kind
 
 -- its name, a byte with the number of its columns, and a byte for each of them
 abbrev pub key_bytes : Key → List ℕ
-key_bytes key = name_bytes key.name ++ (number 1 (length key.columns) ++ key.columns)
-
--- a byte with the number of items, and the items
-abbrev pub list_bytes : {A : Type 0} → (A → List ℕ) → List A → List ℕ
-list_bytes spell items = number 1 (length items) ++ flat_map spell items
+key_bytes key = name_bytes key.name ++ counted 1 key.columns
 
 -- the columns, the keys, and 4 bytes with the most rows
 abbrev pub definition_bytes : Definition → List ℕ

@@ -1,17 +1,19 @@
 //! The first pages of a table's two files (docs/FORMATS.md, "The header of an index file").
 
 ghost use Rattle.std.specs.Prelude.{◌≡◌, ◌+◌, ◌-◌, ◌≤◌, ◌<◌, ◌⊎◌, ◌++◌, length, replicate, OnOk, IfOk, IfSome, if◌then◌else◌};
-ghost use Rattle.aria_page.specs.Number.{number};
+ghost use Rattle.aria_page.specs.declared.page.TheConstants.{BODY_BYTES};
+ghost use Rattle.aria_page.specs.declared.page_kind.PageKind.TheVariants.{Dynamic, Bitmap};
+ghost use Rattle.aria_page.specs.PageKind.{kind_byte};
 ghost use Rattle.aria_page.specs.Lsn.{IsLsn};
 ghost use Rattle.aria_page.specs.Page.{Sums, IsSound, page_body, page_lsn};
 ghost use Rattle.aria_value.specs.Defined.{IsDefinition, HasNames};
 ghost use Rattle.aria_value.specs.Header.{begins_header, definition_in, roots_in, header_of, read_header, IsHeader, new_header, new_front, new_fields, new_header_bytes, new_page, first_index_page, first_data_page};
 
-use crate::definition::Definition;
-use crate::stored::{decode_definition, encode_definition};
+use crate::definition::{Definition, MAX_KEYS};
+use crate::definition_codec::{decode_definition, encode_definition};
 use aria_page::{
-    BODY_AT, Bytes, List, Lsn, Page, bytes_at, bytes_from, lsn_of, u16_bytes, u16_of, u32_of,
-    u40_of,
+    BODY_AT, Bytes, List, Lsn, Page, PageKind, bytes_at, bytes_from, flag, lsn_of,
+    push_counted_u16, push_lsn, u16_of, u32_of, u40_of,
 };
 use std::alloc::{AllocError, Global};
 
@@ -29,7 +31,7 @@ pub struct Header {
     /// The first deleted block of a plain table, in units of 16 bytes; all ones for none.
     pub deleted: u64,
     /// The root page of each key's tree, 0 for an empty one.
-    pub roots: [u32; 8],
+    pub roots: [u32; MAX_KEYS],
     /// The end of a plain table's blocks, in units of 16 bytes.
     pub end: u64,
     pub definition: Definition,
@@ -37,74 +39,97 @@ pub struct Header {
     pub format: u8,
 }
 
-// The kind of the page, and the magic.
+// The places of the fields, from the body's first byte on.
+const FORMAT_AT: usize = 9;
+
+const PLAIN_AT: usize = 10;
+
+const MARK_AT: usize = 11;
+
+const CREATED_AT: usize = 12;
+
+const ROWS_AT: usize = 19;
+
+const FREE_AT: usize = 23;
+
+const DELETED_AT: usize = 27;
+
+const ROOTS_AT: usize = 32;
+
+const END_AT: usize = 64;
+
+const LENGTH_AT: usize = 69;
+
+const DEFINITION_AT: usize = 71;
+
+// The kind of the page, `PageKind::Header`, and the magic.
 const FRONT: [u8; 9] = *b"\x01ARIAOWN1";
 
 // Whether bytes 0 to 11 are those of a header.
 #[tactic(auto, unfolding(crate::specs::Header::begins_header))]
 fn begins_header(body: &[u8]) -> bool
-    requires { length body.now ≡ 8181 }
+    requires { length body.now ≡ BODY_BYTES }
     ensures { result ≡ begins_header body.now }
 {
     body.starts_with(&FRONT)
-        && (body[9] == 1 || body[9] == 2)
-        && body[10] <= 1
-        && body[11] <= body[10]
+        && (body[FORMAT_AT] == 1 || body[FORMAT_AT] == 2)
+        && body[PLAIN_AT] <= 1
+        && body[MARK_AT] <= body[PLAIN_AT]
 }
 
 // The definition behind its length.
 #[tactic(auto, unfolding(crate::specs::Header::definition_in))]
 fn definition_in(alloc: Global, body: &[u8]) -> Result<Option<Definition>, AllocError>
-    requires { length body.now ≡ 8181 }
+    requires { length body.now ≡ BODY_BYTES }
     ensures { IfOk result (λ r. r ≡ definition_in body.now) }
 {
-    let count = u16_of(bytes_from(body, 69));
-    match bytes_at(bytes_from(body, 71), count as usize) {
+    let count = u16_of(bytes_from(body, LENGTH_AT));
+    match bytes_at(bytes_from(body, DEFINITION_AT), count as usize) {
         None => Ok(None),
         Some((text, _)) => decode_definition(alloc, text),
     }
 }
 
 #[tactic(auto, unfolding(crate::specs::Header::roots_in))]
-fn roots_in(body: &[u8]) -> [u32; 8]
-    requires { length body.now ≡ 8181 }
+fn roots_in(body: &[u8]) -> [u32; MAX_KEYS]
+    requires { length body.now ≡ BODY_BYTES }
     ensures { result ≡ roots_in body.now }
 {
     [
-        u32_of(bytes_from(body, 32)),
-        u32_of(bytes_from(body, 36)),
-        u32_of(bytes_from(body, 40)),
-        u32_of(bytes_from(body, 44)),
-        u32_of(bytes_from(body, 48)),
-        u32_of(bytes_from(body, 52)),
-        u32_of(bytes_from(body, 56)),
-        u32_of(bytes_from(body, 60)),
+        u32_of(bytes_from(body, ROOTS_AT)),
+        u32_of(bytes_from(body, ROOTS_AT + 4)),
+        u32_of(bytes_from(body, ROOTS_AT + 8)),
+        u32_of(bytes_from(body, ROOTS_AT + 12)),
+        u32_of(bytes_from(body, ROOTS_AT + 16)),
+        u32_of(bytes_from(body, ROOTS_AT + 20)),
+        u32_of(bytes_from(body, ROOTS_AT + 24)),
+        u32_of(bytes_from(body, ROOTS_AT + 28)),
     ]
 }
 
 // The fields, each in its place.
 #[tactic(auto, unfolding(crate::specs::Header::header_of))]
 fn header_of(body: &[u8], definition: Definition) -> Header
-    requires { length body.now ≡ 8181 }
+    requires { length body.now ≡ BODY_BYTES }
     ensures { result ≡ header_of body.now definition }
 {
     Header {
-        plain: body[10] == 1,
-        marked: body[11] == 1,
-        created: lsn_of(bytes_from(body, 12)),
-        rows: u32_of(bytes_from(body, 19)),
-        free: u32_of(bytes_from(body, 23)),
-        deleted: u40_of(bytes_from(body, 27)),
+        plain: body[PLAIN_AT] == 1,
+        marked: body[MARK_AT] == 1,
+        created: lsn_of(bytes_from(body, CREATED_AT)),
+        rows: u32_of(bytes_from(body, ROWS_AT)),
+        free: u32_of(bytes_from(body, FREE_AT)),
+        deleted: u40_of(bytes_from(body, DELETED_AT)),
         roots: roots_in(body),
-        end: u40_of(bytes_from(body, 64)),
+        end: u40_of(bytes_from(body, END_AT)),
         definition,
-        format: body[9],
+        format: body[FORMAT_AT],
     }
 }
 
 #[tactic(auto, unfolding(crate::specs::Header::read_header))]
 fn header_at(alloc: Global, body: &[u8]) -> Result<Option<Header>, AllocError>
-    requires { length body.now ≡ 8181 }
+    requires { length body.now ≡ BODY_BYTES }
     ensures { IfOk result (λ r. r ≡ read_header body.now) }
 {
     if !begins_header(body) {
@@ -118,7 +143,7 @@ fn header_at(alloc: Global, body: &[u8]) -> Result<Option<Header>, AllocError>
 
 // The header that a body spells.
 fn header_in(alloc: Global, body: &[u8]) -> Result<Option<Header>, AllocError>
-    requires { length body.now ≡ 8181 }
+    requires { length body.now ≡ BODY_BYTES }
     ensures read { IfOk result (λ r. r ≡ read_header body.now) }
     ensures is { IfOk result (λ r. IfSome r IsHeader) }
 {
@@ -135,12 +160,6 @@ pub fn read_header(alloc: Global, page: &Page) -> Result<Option<Header>, AllocEr
         return Ok(None);
     }
     header_in(alloc, page.body())
-}
-
-fn flag(plain: bool) -> u8
-    ensures { result ≡ (if plain then 1 else 0) }
-{
-    if plain { 1 } else { 0 }
 }
 
 // The first 12 bytes of a new table's header.
@@ -172,15 +191,6 @@ fn push_fields(out: &mut Bytes, plain: bool) -> Result<(), AllocError>
     out.extend_from_slice(&[0; 37])
 }
 
-// Bytes behind their length.
-fn push_counted(out: &mut Bytes, bytes: &[u8]) -> Result<(), AllocError>
-    requires { length bytes.now < 65536 }
-    ensures { OnOk result (out.new ≡ out.old ++ (number 2 (length bytes.now) ++ bytes.now)) }
-{
-    out.extend_from_slice(&u16_bytes(bytes.len() as u16))?;
-    out.extend_from_slice(bytes)
-}
-
 // The body of a new table's header, up to where zeros follow.
 #[tactic(auto, unfolding(crate::specs::Header::new_header_bytes))]
 fn new_header(
@@ -193,25 +203,25 @@ fn new_header(
     requires { IsDefinition definition.now }
     ensures spelled { IfOk result (λ bytes. bytes ≡ new_header_bytes definition.now plain created format) }
     ensures names { IfOk result (λ bytes. HasNames definition.now) }
-    ensures length { IfOk result (λ bytes. length bytes ≤ 8181) }
+    ensures length { IfOk result (λ bytes. length bytes ≤ BODY_BYTES) }
 {
     let stored = encode_definition(alloc, definition)?;
     let mut out = List::new(alloc);
     push_front(&mut out, plain, format)?;
-    out.extend_from_slice(&created.to_bytes())?;
+    push_lsn(&mut out, created)?;
     push_fields(&mut out, plain)?;
-    push_counted(&mut out, stored.as_slice())?;
+    push_counted_u16(&mut out, stored.as_slice())?;
     Ok(out)
 }
 
 // A page of zeros but for these bytes at the beginning of its body.
 #[tactic(auto, unfolding(crate::specs::Header::new_page))]
 fn new_page(bytes: &[u8], created: Lsn) -> Page
-    requires { length bytes.now ≤ 8181 }
+    requires { length bytes.now ≤ BODY_BYTES }
     ensures page { result ≡ new_page bytes.now created }
     ensures sums { Sums result }
     ensures lsn { IsLsn created → page_lsn result ≡ created }
-    ensures body { page_body result ≡ bytes.now ++ replicate (8192 - (11 + length bytes.now)) 0 }
+    ensures body { page_body result ≡ bytes.now ++ replicate (BODY_BYTES - length bytes.now) 0 }
 {
     let mut page = Page::zero();
     page.put(BODY_AT, bytes);
@@ -221,9 +231,13 @@ fn new_page(bytes: &[u8], created: Lsn) -> Page
 
 // The kind of the first page of a data file: a page of dynamic rows, or a bitmap page.
 fn kind_of(plain: bool) -> u8
-    ensures { result ≡ (if plain then 9 else 2) }
+    ensures { result ≡ (if plain then kind_byte Dynamic else kind_byte Bitmap) }
 {
-    if plain { 9 } else { 2 }
+    if plain {
+        PageKind::Dynamic.to_byte()
+    } else {
+        PageKind::Bitmap.to_byte()
+    }
 }
 
 /// The first pages of the index file and of the data file of a new table of the format, 1 or 2.

@@ -5,15 +5,16 @@ ghost use Rattle.std.specs.List.{flat_map, starts_with, AllByRecursion};
 ghost use Rattle.std.specs.Cmp.Lexicographic.{slice_cmp};
 ghost use Rattle.std.specs.Ordering.{nat_cmp};
 ghost use Rattle.aria_value.specs.declared.value.Value.{Value as AnyValue};
+ghost use Rattle.aria_value.specs.declared.definition.TheConstants.{MAX_ENTRY_BYTES};
 ghost use Rattle.aria_value.specs.Order.{value_at, key_columns, key_cmp, has_values};
 ghost use Rattle.aria_value.specs.Rows.{Fits, IsRow};
 ghost use Rattle.aria_value.specs.Defined.{IsDefinition};
 ghost use Rattle.aria_value.specs.Entry.{raised, escaped, part, parts, entry_bytes, prefix_bytes, have_types};
 
-use crate::defined::key_columns;
 use crate::definition::Definition;
-use crate::value::{Row, Value};
-use aria_page::{Bytes, List, u64_bytes};
+use crate::row::Row;
+use crate::value::Value;
+use aria_page::{Bytes, List, push_u64};
 use std::alloc::{AllocError, Global};
 
 // The number and 2^63.
@@ -48,7 +49,7 @@ fn push_part(out: &mut Bytes, value: &Value) -> Result<(), AllocError>
         Value::Null => out.push(0),
         Value::Int(n) => {
             out.push(1)?;
-            out.extend_from_slice(&u64_bytes(raised(*n)))
+            push_u64(out, raised(*n))
         }
         Value::Text(text) => {
             out.push(1)?;
@@ -85,11 +86,10 @@ fn entry_of(
 ) -> Result<Bytes, AllocError>
     ensures { IfOk result (λ bytes. bytes ≡ entry_bytes definition.now key row.now) }
 {
-    let keys = definition.keys.as_slice();
     let mut out = List::new(alloc);
-    push_parts(&mut out, row.as_slice(), key_columns(keys, key))?;
+    push_parts(&mut out, row.as_slice(), definition.key_columns(key))?;
     if key != 0 {
-        push_parts(&mut out, row.as_slice(), key_columns(keys, 0))?;
+        push_parts(&mut out, row.as_slice(), definition.first_key_columns())?;
     }
     Ok(out)
 }
@@ -104,7 +104,7 @@ pub fn entry(
     ensures spelled { IfOk result (λ bytes. bytes ≡ entry_bytes definition.now key row.now) }
     // Byte order of entries is the key's order of rows.
     ensures order { (other : Seq AnyValue) → IsRow definition.now row.now → IsRow definition.now other → IfOk result (λ bytes. slice_cmp nat_cmp bytes (entry_bytes definition.now key other) ≡ key_cmp definition.now key row.now other) }
-    ensures length { IsDefinition definition.now → IsRow definition.now row.now → key < length definition.now.keys → IfOk result (λ bytes. length bytes ≤ 1000) }
+    ensures length { IsDefinition definition.now → IsRow definition.now row.now → key < length definition.now.keys → IfOk result (λ bytes. length bytes ≤ MAX_ENTRY_BYTES) }
 {
     entry_of(alloc, definition, key, row)
 }

@@ -16,28 +16,30 @@
 //! the entries of keys, and `specs/Header.antt` the first pages.
 #![tactic(auto)]
 
-mod defined;
 mod definition;
+mod definition_check;
+mod definition_codec;
 mod header;
-mod kept;
+mod kept_row;
 mod key_entry;
+mod named;
 mod row;
-mod row_of;
-mod stored;
+mod row_codec;
 mod value;
 
-pub use defined::{are_keys, entries_fit, first_key_columns, key_columns};
 pub use definition::{
     Column, ColumnType, Definition, Key, MAX_COLUMNS, MAX_ENTRY_BYTES, MAX_KEYS, MAX_ROWS,
-    MAX_TEXT_BYTES,
+    MAX_TEXT_BYTES, first_key_columns, key_columns, may_hold,
 };
+pub use definition_check::{are_keys, entries_fit};
+pub use definition_codec::{decode_definition, encode_definition};
 pub use header::{Header, first_pages, read_header};
-pub use kept::{keep_row, read_kept};
+pub use kept_row::{keep_row, read_kept};
 pub use key_entry::{entry, prefix};
-pub use row::{decode_row, encode_row};
-pub use row_of::{is_too_long, may_hold};
-pub use stored::{decode_definition, encode_definition};
-pub use value::{MAX_ROW_BYTES, Row, Value};
+pub use named::{Named, has_name, have_distinct_names, number_of};
+pub use row::{MAX_ROW_BYTES, Row, is_too_long};
+pub use row_codec::{decode_row, encode_row};
+pub use value::Value;
 
 #[cfg(test)]
 mod tests;

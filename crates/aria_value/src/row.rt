@@ -1,144 +1,67 @@
-//! Rows as they are stored (docs/FORMATS.md, "Rows").
+//! Which rows a definition has.
 
-ghost use Rattle.std.specs.Prelude.{◌≡◌, ◌<◌, ◌^◌, ◌++◌, List as Seq, length, All, OnOk, IfOk, IfSome};
-ghost use Rattle.aria_page.specs.Number.{number};
-ghost use Rattle.aria_page.specs.Field.{Gives};
-ghost use Rattle.aria_value.specs.declared.value.Value.{Value as AnyValue};
-ghost use Rattle.aria_value.specs.Stored.{value_bytes, row_bytes, row_length, text_length};
-ghost use Rattle.aria_value.specs.Rows.{IsRow};
-ghost use Rattle.aria_value.specs.Reading.{read_counted, read_items, read_int, read_value, read_row};
+ghost use Rattle.std.specs.Prelude.{◌≡◌, ◌+◌, ◌<◌, nat_lt, MatchOption};
+ghost use Rattle.aria_value.specs.declared.row.TheConstants.{MAX_ROW_BYTES};
+ghost use Rattle.aria_value.specs.Stored.{value_length, row_length};
+ghost use Rattle.aria_value.specs.Rows.{may_hold_all, is_row};
 
-use crate::definition::Definition;
-use crate::row_of::is_row;
-use crate::value::{MAX_ROW_BYTES, Row, Value};
-use aria_page::{Bytes, List, bytes_at, u32_at, u32_bytes, u64_at, u64_bytes};
-use std::alloc::{AllocError, Global};
+use crate::definition::{Column, Definition};
+use crate::value::Value;
+use aria_page::List;
 
-fn push_text(out: &mut Bytes, text: &[u8]) -> Result<(), AllocError>
-    requires { length text.now < 2 ^ 32 }
-    ensures { OnOk result (out.new ≡ out.old ++ (number 4 (length text.now) ++ text.now)) }
+/// The longest stored row, in bytes (docs/LANGUAGE.md, "Limits").
+pub const MAX_ROW_BYTES: u32 = 65_536;
+
+/// A row: a value for each column, in the columns' order.
+pub type Row = List<Value>;
+
+#[tactic(auto, using(crate::proofs::RowChecks::holds_none))]
+fn may_hold_all(keyed: &[u8], columns: &[Column], row: &[Value]) -> bool
+    ensures { result ≡ may_hold_all keyed.now 0 columns.now row.now }
 {
-    out.extend_from_slice(&u32_bytes(text.len() as u32))?;
-    out.extend_from_slice(text)
+    if columns.len() != row.len() {
+        return false;
+    }
+    for (nth, column) in columns.iter().enumerate() {
+        if !column.may_hold(nth, keyed, &row[nth]) {
+            return false;
+        }
+    }
+    true
 }
 
-fn push_value(out: &mut Bytes, value: &Value) -> Result<(), AllocError>
-    requires { text_length value.now < 2 ^ 32 }
-    ensures { OnOk result (out.new ≡ out.old ++ value_bytes value.now) }
+// What is left of so many bytes behind a stored value, if it fits them.
+fn room_behind(room: usize, value: &Value) -> Option<usize>
+    ensures { MatchOption result (room < value_length value.now) (λ left. left + value_length value.now ≡ room) }
 {
     match value {
-        Value::Null => out.push(0),
-        Value::Int(n) => {
-            out.push(1)?;
-            out.extend_from_slice(&u64_bytes(n.cast_unsigned()))
-        }
-        Value::Text(text) => {
-            out.push(2)?;
-            push_text(out, text.as_slice())
-        }
+        Value::Null => room.checked_sub(1),
+        Value::Int(_) => room.checked_sub(9),
+        Value::Text(bytes) => room.checked_sub(5)?.checked_sub(bytes.len()),
     }
 }
 
-/// The bytes of a stored row. Each text has fewer than 2^32 bytes.
-pub fn encode_row(alloc: Global, row: &Row) -> Result<Bytes, AllocError>
-    requires { All (λ value. text_length value < 2 ^ 32) row.now }
-    ensures spelled { IfOk result (λ bytes. bytes ≡ row_bytes row.now) }
-    ensures length { IfOk result (λ bytes. length bytes ≡ row_length row.now) }
+/// Whether a row is longer, as it is stored, than a table may hold.
+pub fn is_too_long(row: &[Value]) -> bool
+    ensures { result ≡ nat_lt MAX_ROW_BYTES (row_length row.now) }
 {
-    let mut out = List::new(alloc);
-    for value in row.as_slice() {
-        push_value(&mut out, value)?;
-    }
-    Ok(out)
-}
-
-#[tactic(auto, unfolding(crate::specs::Reading::read_int))]
-fn int_at(bytes: &[u8]) -> Option<(i64, &[u8])>
-    ensures { Gives (λ x. (x.0, x.1.now)) result (read_int bytes.now) }
-{
-    let (n, rest) = u64_at(bytes)?;
-    Some((n.cast_signed(), rest))
-}
-
-#[tactic(auto, unfolding(crate::specs::Reading::read_counted))]
-fn text_at(bytes: &[u8]) -> Option<(&[u8], &[u8])>
-    ensures { Gives (λ x. (x.0.now, x.1.now)) result (read_counted 4 bytes.now) }
-{
-    let (len, rest) = u32_at(bytes)?;
-    bytes_at(rest, len as usize)
-}
-
-// The value in front, and the bytes after it.
-#[tactic(auto, unfolding(crate::specs::Reading::read_value))]
-fn value_at(alloc: Global, bytes: &[u8]) -> Result<Option<(Value, &[u8])>, AllocError>
-    ensures { IfOk result (λ r. Gives (λ x. (x.0, x.1.now)) r (read_value bytes.now)) }
-{
-    match bytes {
-        [0, rest @ ..] => Ok(Some((Value::Null, rest))),
-        [1, rest @ ..] => match int_at(rest) {
-            None => Ok(None),
-            Some((n, rest)) => Ok(Some((Value::Int(n), rest))),
-        },
-        [2, rest @ ..] => match text_at(rest) {
-            None => Ok(None),
-            Some((text, rest)) => {
-                let text = List::from_slice(alloc, text)?;
-                Ok(Some((Value::Text(text), rest)))
-            }
-        },
-        _ => Ok(None),
-    }
-}
-
-// So many values, and the bytes after them.
-fn values_at(alloc: Global, count: usize, bytes: &[u8]) -> Result<Option<(Row, &[u8])>, AllocError>
-    ensures { IfOk result (λ r. Gives (λ x. (x.0, x.1.now)) r (read_items read_value count bytes.now)) }
-{
-    let mut row = List::new(alloc);
-    let mut rest = bytes;
-    for _ in 0..count {
-        match value_at(alloc, rest)? {
-            None => return Ok(None),
-            Some((value, after)) => {
-                row.push(value)?;
-                rest = after;
-            }
+    let mut room = MAX_ROW_BYTES as usize;
+    for value in row {
+        match room_behind(room, value) {
+            None => return true,
+            Some(left) => room = left,
         }
     }
-    Ok(Some((row, rest)))
+    false
 }
 
-// The row that the bytes spell.
-#[tactic(auto, unfolding(crate::specs::Reading::read_row))]
-fn row_at(alloc: Global, definition: &Definition, bytes: &[u8]) -> Result<Option<Row>, AllocError>
-    ensures { IfOk result (λ row. row ≡ read_row definition.now bytes.now) }
+/// Whether the values are a row of the definition.
+pub(crate) fn is_row(definition: &Definition, row: &[Value]) -> bool
+    ensures { result ≡ is_row definition.now row.now }
 {
-    match values_at(alloc, definition.columns.len(), bytes)? {
-        None => Ok(None),
-        Some((row, rest)) => {
-            if rest.is_empty() && is_row(definition, row.as_slice()) {
-                Ok(Some(row))
-            } else {
-                Ok(None)
-            }
-        }
-    }
-}
-
-/// The row of the definition that the bytes spell; `None` where they spell none.
-pub fn decode_row(
-    alloc: Global,
-    definition: &Definition,
-    bytes: &[u8],
-) -> Result<Option<Row>, AllocError>
-    ensures read { IfOk result (λ row. row ≡ read_row definition.now bytes.now) }
-    // What is read is spelled so.
-    ensures found { IfOk result (λ r. IfSome r (λ row. IsRow definition.now row × (bytes.now ≡ row_bytes row))) }
-    // What is spelled so is read.
-    ensures only { (row : Seq AnyValue) → IsRow definition.now row → bytes.now ≡ row_bytes row → IfOk result (λ r. r ≡ Some row) }
-{
-    if bytes.len() > MAX_ROW_BYTES as usize {
-        return Ok(None);
-    }
-    row_at(alloc, definition, bytes)
+    may_hold_all(
+        definition.first_key_columns(),
+        definition.columns.as_slice(),
+        row,
+    ) && !is_too_long(row)
 }

@@ -4,12 +4,9 @@ ghost use Rattle.std.specs.Ordering.{as_partial_cmp, eq_by_cmp};
 ghost use Rattle.aria_value.specs.Order.{value_cmp};
 ghost use Rattle.aria_value.specs.ValueOrder.{value_total, value_partial};
 
-use aria_page::{Bytes, List};
+use aria_page::Bytes;
 use std::alloc::{AllocError, Global};
 use std::cmp::Ordering;
-
-/// The longest stored row, in bytes (docs/LANGUAGE.md, "Limits").
-pub const MAX_ROW_BYTES: u32 = 65_536;
 
 /// A value of a row. Null comes first, then numbers by size, then texts by byte.
 #[derive(Debug, Drop)]
@@ -18,9 +15,6 @@ pub enum Value {
     Int(i64),
     Text(Bytes),
 }
-
-/// A row: a value for each column, in the columns' order.
-pub type Row = List<Value>;
 
 impl Value {
     ghost use Rattle.std.specs.Prelude.{IfOk};
