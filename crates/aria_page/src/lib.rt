@@ -22,6 +22,7 @@ mod number;
 mod page;
 mod page_kind;
 mod place;
+mod stored;
 
 pub use bytes::{
     bytes_at, bytes_from, counted_u8_at, counted_u16_at, counted_u32_at, push_counted_u8,
@@ -41,6 +42,7 @@ pub use number::{
 pub use page::{BODY_AT, BODY_BYTES, LOG_BODY_AT, LOG_BODY_BYTES, PAGE_BYTES, Page, SUM_BYTES};
 pub use page_kind::PageKind;
 pub use place::{Part, Place, Places};
+pub use stored::{Stored, items_at, list_at, push_items, push_list};
 
 #[cfg(test)]
 mod tests;

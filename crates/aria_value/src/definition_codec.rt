@@ -13,7 +13,8 @@ ghost use Rattle.aria_value.specs.Reading.{type_of, read_type, read_column, read
 use crate::definition::{Column, ColumnType, Definition, Key};
 use crate::definition_check::is_definition;
 use aria_page::{
-    Bytes, List, counted_u8_at, name_at, push_counted_u8, push_name, push_u32, u8_at, u32_at,
+    Bytes, List, Stored, counted_u8_at, list_at, name_at, push_counted_u8, push_list, push_name,
+    push_u32, u8_at, u32_at,
 };
 use std::alloc::{AllocError, Global};
 
@@ -30,69 +31,6 @@ fn push_type(out: &mut Bytes, kind: ColumnType) -> Result<(), AllocError>
     }
 }
 
-fn push_column(out: &mut Bytes, column: &Column) -> Result<(), AllocError>
-    ensures spelled { OnOk result (out.new ≡ out.old ++ column_bytes column.now) }
-    ensures word { IsTrue (is_word column.now.name) }
-{
-    push_name(out, &column.name)?;
-    push_type(out, column.kind)
-}
-
-fn push_columns(out: &mut Bytes, columns: &[Column]) -> Result<(), AllocError>
-    ensures spelled { OnOk result (out.new ≡ out.old ++ flat_map column_bytes columns.now) }
-    ensures words { OnOk result (All (λ column. IsTrue (is_word column.name)) columns.now) }
-{
-    for column in columns {
-        push_column(out, column)?;
-    }
-    Ok(())
-}
-
-fn push_key(out: &mut Bytes, key: &Key) -> Result<(), AllocError>
-    requires { length key.now.columns < 256 }
-    ensures spelled { OnOk result (out.new ≡ out.old ++ key_bytes key.now) }
-    ensures word { IsTrue (is_word key.now.name) }
-{
-    push_name(out, &key.name)?;
-    push_counted_u8(out, key.columns.as_slice())
-}
-
-fn push_keys(out: &mut Bytes, keys: &[Key]) -> Result<(), AllocError>
-    requires { All (λ key. length key.columns < 256) keys.now }
-    ensures spelled { OnOk result (out.new ≡ out.old ++ flat_map key_bytes keys.now) }
-    ensures words { OnOk result (All (λ key. IsTrue (is_word key.name)) keys.now) }
-{
-    for key in keys {
-        push_key(out, key)?;
-    }
-    Ok(())
-}
-
-// The columns behind a byte with their number.
-#[tactic(auto, using(crate::proofs::StoredDefinitions::counted_items))]
-fn push_all_columns(out: &mut Bytes, columns: &[Column]) -> Result<(), AllocError>
-    requires { length columns.now < 256 }
-    ensures spelled { OnOk result (out.new ≡ out.old ++ list_bytes column_bytes columns.now) }
-    ensures words { OnOk result (All (λ column. IsTrue (is_word column.name)) columns.now) }
-{
-    out.push(columns.len() as u8)?;
-    push_columns(out, columns)?;
-    Ok(())
-}
-
-// The keys behind a byte with their number.
-#[tactic(auto, using(crate::proofs::StoredDefinitions::counted_items))]
-fn push_all_keys(out: &mut Bytes, keys: &[Key]) -> Result<(), AllocError>
-    requires number { length keys.now < 256 }
-    requires columns { All (λ key. length key.columns < 256) keys.now }
-    ensures spelled { OnOk result (out.new ≡ out.old ++ list_bytes key_bytes keys.now) }
-    ensures words { OnOk result (All (λ key. IsTrue (is_word key.name)) keys.now) }
-{
-    out.push(keys.len() as u8)?;
-    push_keys(out, keys)?;
-    Ok(())
-}
-
 /// The bytes of a stored definition.
 pub fn encode_definition(alloc: Global, definition: &Definition) -> Result<Bytes, AllocError>
     requires { IsDefinition definition.now }
@@ -101,8 +39,8 @@ pub fn encode_definition(alloc: Global, definition: &Definition) -> Result<Bytes
     ensures length { IfOk result (λ bytes. length bytes ≤ 4814) }
 {
     let mut out = List::new(alloc);
-    push_all_columns(&mut out, definition.columns.as_slice())?;
-    push_all_keys(&mut out, definition.keys.as_slice())?;
+    push_list(&mut out, definition.columns.as_slice())?;
+    push_list(&mut out, definition.keys.as_slice())?;
     push_u32(&mut out, definition.max_rows)?;
     Ok(out)
 }
@@ -127,96 +65,68 @@ fn type_at(bytes: &[u8]) -> Option<(ColumnType, &[u8])>
     Some((kind, rest))
 }
 
-// The column in front, and the bytes after it.
-#[tactic(auto, unfolding(crate::specs::Reading::read_column))]
-fn column_at(bytes: &[u8]) -> Option<(Column, &[u8])>
-    ensures { Gives (λ x. (x.0, x.1.now)) result (read_column bytes.now) }
-{
-    match name_at(bytes) {
-        None => None,
-        Some((name, rest)) => match type_at(rest) {
-            None => None,
-            Some((kind, rest)) => Some((Column { name, kind }, rest)),
-        },
-    }
-}
+impl Stored for Column {
+    ghost use Rattle.std.specs.Prelude.{IsTrue};
+    ghost use Rattle.aria_page.specs.Word.{is_word};
+    ghost use Rattle.aria_value.specs.Stored.{column_bytes};
+    ghost use Rattle.aria_value.specs.Reading.{read_column};
 
-// So many columns, and the bytes after them.
-fn columns_at(
-    alloc: Global,
-    count: u8,
-    bytes: &[u8],
-) -> Result<Option<(List<Column>, &[u8])>, AllocError>
-    ensures { IfOk result (λ r. Gives (λ x. (x.0, x.1.now)) r (items_at read_column count bytes.now)) }
-{
-    let mut columns = List::new(alloc);
-    let mut rest = bytes;
-    for _ in 0..count {
-        match column_at(rest) {
-            None => return Ok(None),
-            Some((column, after)) => {
-                columns.push(column)?;
-                rest = after;
-            }
-        }
-    }
-    Ok(Some((columns, rest)))
-}
+    ghost spelled = { column_bytes };
 
-// The key in front, and the bytes after it.
-#[tactic(auto, unfolding(crate::specs::Reading::read_key))]
-fn key_at(alloc: Global, bytes: &[u8]) -> Result<Option<(Key, &[u8])>, AllocError>
-    ensures { IfOk result (λ r. Gives (λ x. (x.0, x.1.now)) r (read_key bytes.now)) }
-{
-    match name_at(bytes) {
-        None => Ok(None),
-        Some((name, rest)) => match counted_u8_at(rest) {
+    ghost fits = { λ column. Unit {0} };
+
+    ghost holds = { λ column. IsTrue (is_word column.name) };
+
+    ghost reads = { read_column };
+
+    fn write(&self, out: &mut Bytes) -> Result<(), AllocError> {
+        push_name(out, &self.name)?;
+        push_type(out, self.kind)
+    }
+
+    #[tactic(auto, unfolding(crate::specs::Reading::read_column))]
+    fn read(_alloc: Global, bytes: &[u8]) -> Result<Option<(Column, &[u8])>, AllocError> {
+        match name_at(bytes) {
             None => Ok(None),
-            Some((columns, rest)) => {
-                let columns = List::from_slice(alloc, columns)?;
-                Ok(Some((Key { name, columns }, rest)))
-            }
-        },
-    }
-}
-
-// So many keys, and the bytes after them.
-fn keys_at(alloc: Global, count: u8, bytes: &[u8]) -> Result<Option<(List<Key>, &[u8])>, AllocError>
-    ensures { IfOk result (λ r. Gives (λ x. (x.0, x.1.now)) r (items_at read_key count bytes.now)) }
-{
-    let mut keys = List::new(alloc);
-    let mut rest = bytes;
-    for _ in 0..count {
-        match key_at(alloc, rest)? {
-            None => return Ok(None),
-            Some((key, after)) => {
-                keys.push(key)?;
-                rest = after;
-            }
+            Some((name, rest)) => match type_at(rest) {
+                None => Ok(None),
+                Some((kind, rest)) => Ok(Some((Column { name, kind }, rest))),
+            },
         }
     }
-    Ok(Some((keys, rest)))
 }
 
-// All columns behind a byte with their number, and the bytes after them.
-#[tactic(auto, unfolding(aria_page::specs::Items::list_at))]
-fn all_columns_at(alloc: Global, bytes: &[u8]) -> Result<Option<(List<Column>, &[u8])>, AllocError>
-    ensures { IfOk result (λ r. Gives (λ x. (x.0, x.1.now)) r (list_at read_column bytes.now)) }
-{
-    match u8_at(bytes) {
-        None => Ok(None),
-        Some((count, rest)) => columns_at(alloc, count, rest),
+impl Stored for Key {
+    ghost use Rattle.std.specs.Prelude.{◌<◌, ◌^◌, length, IsTrue};
+    ghost use Rattle.aria_page.specs.Word.{is_word};
+    ghost use Rattle.aria_value.specs.Stored.{key_bytes};
+    ghost use Rattle.aria_value.specs.Reading.{read_key};
+
+    ghost spelled = { key_bytes };
+
+    ghost fits = { λ key. length key.columns < 2 ^ 8 };
+
+    ghost holds = { λ key. IsTrue (is_word key.name) };
+
+    ghost reads = { read_key };
+
+    fn write(&self, out: &mut Bytes) -> Result<(), AllocError> {
+        push_name(out, &self.name)?;
+        push_counted_u8(out, self.columns.as_slice())
     }
-}
 
-// All keys behind a byte with their number, and the bytes after them.
-#[tactic(auto, unfolding(aria_page::specs::Items::list_at))]
-fn all_keys_at(alloc: Global, bytes: &[u8]) -> Result<Option<(List<Key>, &[u8])>, AllocError>
-    ensures { IfOk result (λ r. Gives (λ x. (x.0, x.1.now)) r (list_at read_key bytes.now)) }
-{
-    match u8_at(bytes) {
-        None => Ok(None),
-        Some((count, rest)) => keys_at(alloc, count, rest),
+    #[tactic(auto, unfolding(crate::specs::Reading::read_key))]
+    fn read(alloc: Global, bytes: &[u8]) -> Result<Option<(Key, &[u8])>, AllocError> {
+        match name_at(bytes) {
+            None => Ok(None),
+            Some((name, rest)) => match counted_u8_at(rest) {
+                None => Ok(None),
+                Some((columns, rest)) => {
+                    let columns = List::from_slice(alloc, columns)?;
+                    Ok(Some((Key { name, columns }, rest)))
+                }
+            },
+        }
     }
 }
 
@@ -225,10 +135,10 @@ fn all_keys_at(alloc: Global, bytes: &[u8]) -> Result<Option<(List<Key>, &[u8])>
 fn parts_at(alloc: Global, bytes: &[u8]) -> Result<Option<(Definition, &[u8])>, AllocError>
     ensures { IfOk result (λ r. Gives (λ x. (x.0, x.1.now)) r (read_parts bytes.now)) }
 {
-    let Some((columns, rest)) = all_columns_at(alloc, bytes)? else {
+    let Some((columns, rest)) = list_at::<Column>(alloc, bytes)? else {
         return Ok(None);
     };
-    let Some((keys, rest)) = all_keys_at(alloc, rest)? else {
+    let Some((keys, rest)) = list_at::<Key>(alloc, rest)? else {
         return Ok(None);
     };
     let Some((max_rows, rest)) = u32_at(rest) else {

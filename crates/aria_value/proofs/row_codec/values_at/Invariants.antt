@@ -1,9 +1,0 @@
-use Rattle.std.proofs.Common.{◌≡◌, ◌-◌}
-use Rattle.aria_page.specs.Items.{items_at}
-use Rattle.aria_value.specs.Reading.{read_value}
-use Rattle.aria_page.proofs.Items.{with_front}
-use Rattle.aria_value.proofs.row_codec.values_at.Given as goal
-
--- The values so far, and those that are left, are those of the whole.
-abbrev pub invariant-loop : goal.invariant-loop
-invariant-loop l = with_front l.row (items_at read_value (l.count - l.counter) l.rest) ≡ items_at read_value l.count l.bytes
