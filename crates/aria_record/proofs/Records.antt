@@ -6,7 +6,7 @@ use Rattle.std.proofs.lemmas.Bool.{eqb-true}
 use Rattle.std.proofs.lemmas.List.{append-nil, nil_from_length, take_at, drop_at, length-append}
 use Rattle.std.proofs.lemmas.Option.{same_Some, cond_some}
 use Rattle.aria_page.specs.declared.group.RedoKind.{RedoKind}
-use Rattle.aria_page.specs.declared.group.RedoKind.TheVariants as kinds
+use Rattle.aria_page.specs.declared.group.RedoKind.TheVariants as redo
 use Rattle.aria_page.specs.Field.{◌>>=◌, AreBytes, Takes}
 use Rattle.aria_page.specs.Number.{number, number_at}
 use Rattle.aria_page.specs.Text.{name_at, counted_at}
@@ -16,157 +16,182 @@ use Rattle.aria_value.specs.Reading.{read_definition}
 use Rattle.aria_page.proofs.Texts.{counted_takes, counted_again}
 use Rattle.aria_page.specs.Items.{list_at}
 use Rattle.aria_page.proofs.Items.{Reads}
+use Rattle.aria_record.specs.declared.record_kind.RecordKind.{RecordKind}
+use Rattle.aria_record.specs.declared.record_kind.RecordKind.TheVariants as kinds
+use Rattle.aria_record.specs.RecordKind.{redo_byte, kind_byte, record_kinds, kind_in, kind_with, kind_of}
 use Rattle.aria_record.specs.declared.record.Record.{Record}
 use Rattle.aria_record.specs.declared.record.Record.TheVariants.{Redo, UndoRowInsert, UndoRowDelete, UndoKeyInsert, UndoKeyDelete, ClrEnd, Commit, Checkpoint, CreateTable, DropTable, RepairTable}
-use Rattle.aria_record.specs.Spelled.{redo_number, kind_number, body_bytes, record_bytes, content_bytes, group_bytes}
+use Rattle.aria_record.specs.Spelled.{body_bytes, record_bytes, content_bytes, group_bytes}
 use Rattle.aria_record.specs.Groups.{is_group, BodyFits, RecordFits, IsGroup, IsInFront}
-use Rattle.aria_record.specs.Reading.{read_whole, kind_in, redo_kinds, redo_kind, read_redo_parts, read_redo, read_row_head, read_row_insert, read_row_delete, read_key_head, read_key_insert, read_key_delete, read_clr_parts, read_clr_end, read_commit, read_checkpoint_parts, read_checkpoint, read_table_head, read_create, read_drop, read_repair, read_in, others, read_known, read_body, read_record, read_content, read_group, Decodes}
+use Rattle.aria_record.specs.Reading.{read_whole, read_redo_parts, read_redo, read_row_head, read_row_insert, read_row_delete, read_key_head, read_key_insert, read_key_delete, read_clr_parts, read_clr_end, read_commit, read_checkpoint_parts, read_checkpoint, read_table_head, read_create, read_drop, read_repair, read_kind, read_body, read_record, read_content, read_group, Decodes}
 use Rattle.aria_record.proofs.Readers.{name_read, whole_takes, whole_again, list_read}
 use Rattle.aria_record.proofs.Parts.{row_head_read, key_head_read, table_head_read, redo_parts_read, clr_parts_read, checkpoint_parts_read}
 
 -- ---- bodies
 
 -- what a body of this kind gave
-record Gave (number : ℕ) (body : List ℕ) (r : Record) : Type 0 where
+record Gave (kind : RecordKind) (body : List ℕ) (r : Record) : Type 0 where
   spelled : body ≡ body_bytes r
   fits : BodyFits r
-  kind : number ≡ kind_number r
+  is : kind ≡ kind_of r
 
-redo_takes : (kind : RedoKind) (body : List ℕ) (r : Record) → AreBytes body → read_redo kind body ≡ Some r → Gave (redo_number kind) body r
+redo_takes : (kind : RedoKind) (body : List ℕ) (r : Record) → AreBytes body → read_redo kind body ≡ Some r → Gave (kinds.Redo kind) body r
 unfolding read_redo
 redo_takes kind body r fits e =
     let a = bind_some (read_whole read_redo_parts body) (λ x. Some (Redo kind x.0 x.1.0 x.1.1.0 x.1.1.1)) r e in
     let w = whole_takes _ _ _ redo_parts_read body a.0 fits a.1 in
-    subst (λ (y : Record). Gave (redo_number kind) body y) (same_Some (Redo kind a.0.0 a.0.1.0 a.0.1.1.0 a.0.1.1.1) r a.2)
-    (record { spelled = w.0; fits = record { word = w.1.0; low = w.1.1.1.0; some = w.1.1.1.1.0; few = w.1.1.1.1.1.0; within = w.1.1.1.1.1.1 }; kind = refl })
+    subst (λ (y : Record). Gave (kinds.Redo kind) body y) (same_Some (Redo kind a.0.0 a.0.1.0 a.0.1.1.0 a.0.1.1.1) r a.2)
+    (record { spelled = w.0; fits = record { word = w.1.0; low = w.1.1.1.0; some = w.1.1.1.1.0; few = w.1.1.1.1.1.0; within = w.1.1.1.1.1.1 }; is = refl })
 
-row_insert_takes : (body : List ℕ) (r : Record) → AreBytes body → read_row_insert body ≡ Some r → Gave 10 body r
+row_insert_takes : (body : List ℕ) (r : Record) → AreBytes body → read_row_insert body ≡ Some r → Gave kinds.RowInsert body r
 unfolding read_row_insert
 row_insert_takes body r fits e =
     let a = bind_some (read_whole read_row_head body) (λ x. Some (UndoRowInsert x.0 x.1.0 x.1.1)) r e in
     let w = whole_takes _ _ _ row_head_read body a.0 fits a.1 in
-    subst (λ (y : Record). Gave 10 body y) (same_Some (UndoRowInsert a.0.0 a.0.1.0 a.0.1.1) r a.2) (record { spelled = w.0; fits = record { word = w.1.0; before = w.1.1.0; fit = w.1.1.1 }; kind = refl })
+    subst (λ (y : Record). Gave kinds.RowInsert body y) (same_Some (UndoRowInsert a.0.0 a.0.1.0 a.0.1.1) r a.2) (record { spelled = w.0; fits = record { word = w.1.0; before = w.1.1.0; fit = w.1.1.1 }; is = refl })
 
-row_delete_takes : (body : List ℕ) (r : Record) → AreBytes body → read_row_delete body ≡ Some r → Gave 11 body r
+row_delete_takes : (body : List ℕ) (r : Record) → AreBytes body → read_row_delete body ≡ Some r → Gave kinds.RowDelete body r
 unfolding read_row_delete
 row_delete_takes body r fits e =
     let a = bind_some (read_row_head body) (λ x. Some (UndoRowDelete x.0.0 x.0.1.0 x.0.1.1 x.1)) r e in
     let t = row_head_read.takes body a.0 fits a.1 in
-    subst (λ (y : Record). Gave 11 body y) (same_Some (UndoRowDelete a.0.0.0 a.0.0.1.0 a.0.0.1.1 a.0.1) r a.2)
-    (record { spelled = t.0.parts; fits = record { word = t.1.0; before = t.1.1.0; fit = t.1.1.1 }; kind = refl })
+    subst (λ (y : Record). Gave kinds.RowDelete body y) (same_Some (UndoRowDelete a.0.0.0 a.0.0.1.0 a.0.0.1.1 a.0.1) r a.2)
+    (record { spelled = t.0.parts; fits = record { word = t.1.0; before = t.1.1.0; fit = t.1.1.1 }; is = refl })
 
-key_insert_takes : (body : List ℕ) (r : Record) → AreBytes body → read_key_insert body ≡ Some r → Gave 12 body r
+key_insert_takes : (body : List ℕ) (r : Record) → AreBytes body → read_key_insert body ≡ Some r → Gave kinds.KeyInsert body r
 unfolding read_key_insert
 key_insert_takes body r fits e =
     let a = bind_some (read_key_head body) (λ x. Some (UndoKeyInsert x.0.0 x.0.1.0 x.0.1.1.0 x.0.1.1.1 x.1)) r e in
     let t = key_head_read.takes body a.0 fits a.1 in
-    subst (λ (y : Record). Gave 12 body y) (same_Some (UndoKeyInsert a.0.0.0 a.0.0.1.0 a.0.0.1.1.0 a.0.0.1.1.1 a.0.1) r a.2)
-    (record { spelled = t.0.parts; fits = record { word = t.1.0; before = t.1.1.0; known = t.1.1.1.0; low = t.1.1.1.1 }; kind = refl })
+    subst (λ (y : Record). Gave kinds.KeyInsert body y) (same_Some (UndoKeyInsert a.0.0.0 a.0.0.1.0 a.0.0.1.1.0 a.0.0.1.1.1 a.0.1) r a.2)
+    (record { spelled = t.0.parts; fits = record { word = t.1.0; before = t.1.1.0; known = t.1.1.1.0; low = t.1.1.1.1 }; is = refl })
 
-key_delete_takes : (body : List ℕ) (r : Record) → AreBytes body → read_key_delete body ≡ Some r → Gave 13 body r
+key_delete_takes : (body : List ℕ) (r : Record) → AreBytes body → read_key_delete body ≡ Some r → Gave kinds.KeyDelete body r
 unfolding read_key_delete
 key_delete_takes body r fits e =
     let a = bind_some (read_key_head body) (λ x. Some (UndoKeyDelete x.0.0 x.0.1.0 x.0.1.1.0 x.0.1.1.1 x.1)) r e in
     let t = key_head_read.takes body a.0 fits a.1 in
-    subst (λ (y : Record). Gave 13 body y) (same_Some (UndoKeyDelete a.0.0.0 a.0.0.1.0 a.0.0.1.1.0 a.0.0.1.1.1 a.0.1) r a.2)
-    (record { spelled = t.0.parts; fits = record { word = t.1.0; before = t.1.1.0; known = t.1.1.1.0; low = t.1.1.1.1 }; kind = refl })
+    subst (λ (y : Record). Gave kinds.KeyDelete body y) (same_Some (UndoKeyDelete a.0.0.0 a.0.0.1.0 a.0.0.1.1.0 a.0.0.1.1.1 a.0.1) r a.2)
+    (record { spelled = t.0.parts; fits = record { word = t.1.0; before = t.1.1.0; known = t.1.1.1.0; low = t.1.1.1.1 }; is = refl })
 
-clr_end_takes : (body : List ℕ) (r : Record) → AreBytes body → read_clr_end body ≡ Some r → Gave 14 body r
+clr_end_takes : (body : List ℕ) (r : Record) → AreBytes body → read_clr_end body ≡ Some r → Gave kinds.ClrEnd body r
 unfolding read_clr_end
 clr_end_takes body r fits e =
     let a = bind_some (read_whole read_clr_parts body) (λ x. Some (ClrEnd x.0 x.1.0 x.1.1)) r e in
     let w = whole_takes _ _ _ clr_parts_read body a.0 fits a.1 in
-    subst (λ (y : Record). Gave 14 body y) (same_Some (ClrEnd a.0.0 a.0.1.0 a.0.1.1) r a.2) (record { spelled = w.0; fits = record { word = w.1.0; this = w.1.1.0; before = w.1.1.1 }; kind = refl })
+    subst (λ (y : Record). Gave kinds.ClrEnd body y) (same_Some (ClrEnd a.0.0 a.0.1.0 a.0.1.1) r a.2) (record { spelled = w.0; fits = record { word = w.1.0; this = w.1.1.0; before = w.1.1.1 }; is = refl })
 
-commit_takes : (body : List ℕ) (r : Record) → AreBytes body → read_commit body ≡ Some r → Gave 15 body r
+commit_takes : (body : List ℕ) (r : Record) → AreBytes body → read_commit body ≡ Some r → Gave kinds.Commit body r
 unfolding read_commit
 commit_takes body r fits e =
     let t = cond_some (eqb (length body) 0) Commit r e in
     let nothing : body ≡ [] = nil_from_length body (eqb-true _ _ t.0) in
-    subst (λ (y : Record). Gave 15 body y) t.1 (record { spelled = nothing; fits = tt; kind = refl })
+    subst (λ (y : Record). Gave kinds.Commit body y) t.1 (record { spelled = nothing; fits = tt; is = refl })
 
-checkpoint_takes : (body : List ℕ) (r : Record) → AreBytes body → read_checkpoint body ≡ Some r → Gave 16 body r
+checkpoint_takes : (body : List ℕ) (r : Record) → AreBytes body → read_checkpoint body ≡ Some r → Gave kinds.Checkpoint body r
 unfolding read_checkpoint
 checkpoint_takes body r fits e =
     let a = bind_some (read_whole read_checkpoint_parts body) (λ x. Some (Checkpoint x.0 x.1)) r e in
     let w = whole_takes _ _ _ checkpoint_parts_read body a.0 fits a.1 in
-    subst (λ (y : Record). Gave 16 body y) (same_Some (Checkpoint a.0.0 a.0.1) r a.2) (record { spelled = w.0; fits = record { start = w.1.0; few = w.1.1.0; each = w.1.1.1 }; kind = refl })
+    subst (λ (y : Record). Gave kinds.Checkpoint body y) (same_Some (Checkpoint a.0.0 a.0.1) r a.2) (record { spelled = w.0; fits = record { start = w.1.0; few = w.1.1.0; each = w.1.1.1 }; is = refl })
 
-create_takes : (body : List ℕ) (r : Record) → AreBytes body → read_create body ≡ Some r → Gave 17 body r
+create_takes : (body : List ℕ) (r : Record) → AreBytes body → read_create body ≡ Some r → Gave kinds.CreateTable body r
 unfolding read_create
 create_takes body r fits e =
     let a = bind_some (read_table_head body) (λ x. cond (is_some (read_definition x.1)) (Some (CreateTable x.0.0 x.0.1.0 x.1 x.0.1.1)) None) r e in
     let t = table_head_read.takes body a.0 fits a.1 in
     let d = cond_some (is_some (read_definition a.0.1)) (CreateTable a.0.0.0 a.0.0.1.0 a.0.1 a.0.0.1.1) r a.2 in
-    subst (λ (y : Record). Gave 17 body y) d.1 (record { spelled = t.0.parts; fits = record { word = t.1.0; known = t.1.1; spelled = d.0 }; kind = refl })
+    subst (λ (y : Record). Gave kinds.CreateTable body y) d.1 (record { spelled = t.0.parts; fits = record { word = t.1.0; known = t.1.1; spelled = d.0 }; is = refl })
 
-drop_takes : (body : List ℕ) (r : Record) → AreBytes body → read_drop body ≡ Some r → Gave 18 body r
+drop_takes : (body : List ℕ) (r : Record) → AreBytes body → read_drop body ≡ Some r → Gave kinds.DropTable body r
 unfolding read_drop
 drop_takes body r fits e =
     let a = bind_some (read_whole name_at body) (λ name. Some (DropTable name)) r e in
     let w = whole_takes _ _ _ name_read body a.0 fits a.1 in
-    subst (λ (y : Record). Gave 18 body y) (same_Some (DropTable a.0) r a.2) (record { spelled = w.0; fits = w.1; kind = refl })
+    subst (λ (y : Record). Gave kinds.DropTable body y) (same_Some (DropTable a.0) r a.2) (record { spelled = w.0; fits = w.1; is = refl })
 
-repair_takes : (body : List ℕ) (r : Record) → AreBytes body → read_repair body ≡ Some r → Gave 19 body r
+repair_takes : (body : List ℕ) (r : Record) → AreBytes body → read_repair body ≡ Some r → Gave kinds.RepairTable body r
 unfolding read_repair
 repair_takes body r fits e =
     let a = bind_some (read_whole name_at body) (λ name. Some (RepairTable name)) r e in
     let w = whole_takes _ _ _ name_read body a.0 fits a.1 in
-    subst (λ (y : Record). Gave 19 body y) (same_Some (RepairTable a.0) r a.2) (record { spelled = w.0; fits = w.1; kind = refl })
+    subst (λ (y : Record). Gave kinds.RepairTable body y) (same_Some (RepairTable a.0) r a.2) (record { spelled = w.0; fits = w.1; is = refl })
 
 -- ---- kinds
 
-kind_step : (k kind : RedoKind) (n : ℕ) (rest : Option RedoKind) (b : Bool) → eqb (redo_number k) n ≡ b → (rest ≡ Some kind → redo_number kind ≡ n) → cond b (Some k) rest ≡ Some kind → redo_number kind ≡ n
-kind_step k kind n rest true is later e = ap redo_number (sym (same_Some k kind e)) ∙ eqb-true (redo_number k) n is
-kind_step k kind n rest false is later e = later e
+kind_step : (k kind : RecordKind) (byte : ℕ) (rest : Option RecordKind) (b : Bool) → eqb (kind_byte k) byte ≡ b → (rest ≡ Some kind → kind_byte kind ≡ byte) → cond b (Some k) rest ≡ Some kind → kind_byte kind ≡ byte
+kind_step k kind byte rest true is later e = ap kind_byte (sym (same_Some k kind e)) ∙ eqb-true (kind_byte k) byte is
+kind_step k kind byte rest false is later e = later e
 
-kind_found : (all : List RedoKind) (n : ℕ) (kind : RedoKind) → kind_in all n ≡ Some kind → redo_number kind ≡ n
-kind_found [] n kind e = absurd cc
-kind_found (k ∷ all) n kind e = kind_step k kind n (kind_in all n) (eqb (redo_number k) n) refl (kind_found all n kind) e
+kind_found : (all : List RecordKind) (byte : ℕ) (kind : RecordKind) → kind_in all byte ≡ Some kind → kind_byte kind ≡ byte
+kind_found [] byte kind e = absurd cc
+kind_found (k ∷ all) byte kind e = kind_step k kind byte (kind_in all byte) (eqb (kind_byte k) byte) refl (kind_found all byte kind) e
 
-kind_again : (kind : RedoKind) → redo_kind (redo_number kind) ≡ Some kind
-kind_again kinds.InsertRowHead = refl
-kind_again kinds.InsertRowTail = refl
-kind_again kinds.InsertRowBlobs = refl
-kind_again kinds.PurgeRowHead = refl
-kind_again kinds.PurgeRowTail = refl
-kind_again kinds.FreeBlocks = refl
-kind_again kinds.Index = refl
-kind_again kinds.IndexNewPage = refl
-kind_again kinds.IndexFreePage = refl
-kind_again kinds.Bitmap = refl
-kind_again kinds.State = refl
+redo_again : (kind : RedoKind) → kind_with (redo_byte kind) ≡ Some (kinds.Redo kind)
+redo_again redo.InsertRowHead = refl
+redo_again redo.InsertRowTail = refl
+redo_again redo.InsertRowBlobs = refl
+redo_again redo.PurgeRowHead = refl
+redo_again redo.PurgeRowTail = refl
+redo_again redo.FreeBlocks = refl
+redo_again redo.Index = refl
+redo_again redo.IndexNewPage = refl
+redo_again redo.IndexFreePage = refl
+redo_again redo.Bitmap = refl
+redo_again redo.State = refl
+
+kind_again : (kind : RecordKind) → kind_with (kind_byte kind) ≡ Some kind
+kind_again (kinds.Redo kind) = redo_again kind
+kind_again kinds.RowInsert = refl
+kind_again kinds.RowDelete = refl
+kind_again kinds.KeyInsert = refl
+kind_again kinds.KeyDelete = refl
+kind_again kinds.ClrEnd = refl
+kind_again kinds.Commit = refl
+kind_again kinds.Checkpoint = refl
+kind_again kinds.CreateTable = refl
+kind_again kinds.DropTable = refl
+kind_again kinds.RepairTable = refl
+
+-- the kind of a byte has that byte, and no other kind has
+pub with_found : (byte : ℕ) (kind : Option RecordKind) → kind ≡ kind_with byte → IfSome kind (λ k. byte ≡ kind_byte k)
+with_found byte None e = tt
+with_found byte (Some kind) e = sym (kind_found record_kinds byte kind (sym e))
+
+pub with_only : (byte : ℕ) (read : Option RecordKind) (kind : RecordKind) → read ≡ kind_with byte → byte ≡ kind_byte kind → read ≡ Some kind
+with_only byte read kind e is = e ∙ ap kind_with is ∙ kind_again kind
 
 -- what a kind's reader gives is of that kind
-abbrev BodyReads : ℕ × (List ℕ → Option Record) → Type 0
-BodyReads x = (body : List ℕ) (r : Record) → AreBytes body → x.1 body ≡ Some r → Gave x.0 body r
+kind_takes : (kind : RecordKind) (body : List ℕ) (r : Record) → AreBytes body → read_kind kind body ≡ Some r → Gave kind body r
+kind_takes (kinds.Redo kind) = redo_takes kind
+kind_takes kinds.RowInsert = row_insert_takes
+kind_takes kinds.RowDelete = row_delete_takes
+kind_takes kinds.KeyInsert = key_insert_takes
+kind_takes kinds.KeyDelete = key_delete_takes
+kind_takes kinds.ClrEnd = clr_end_takes
+kind_takes kinds.Commit = commit_takes
+kind_takes kinds.Checkpoint = checkpoint_takes
+kind_takes kinds.CreateTable = create_takes
+kind_takes kinds.DropTable = drop_takes
+kind_takes kinds.RepairTable = repair_takes
 
-in_step : (x : ℕ × (List ℕ → Option Record)) (kind : ℕ) (body : List ℕ) (r : Record) (rest : Option Record) (b : Bool) → eqb x.0 kind ≡ b → AreBytes body → BodyReads x → (rest ≡ Some r → Gave kind body r)
-    → cond b (x.1 body) rest ≡ Some r → Gave kind body r
-in_step x kind body r rest true is fits law later e = subst (λ (k : ℕ). Gave k body r) (eqb-true x.0 kind is) (law body r fits e)
-in_step x kind body r rest false is fits law later e = later e
+-- what a body behind the byte of its kind gave
+record GaveBody (byte : ℕ) (body : List ℕ) (r : Record) : Type 0 where
+  spelled : body ≡ body_bytes r
+  fits : BodyFits r
+  kind : byte ≡ kind_byte (kind_of r)
 
-in_takes : (all : List (ℕ × (List ℕ → Option Record))) → AllByRecursion BodyReads all → (kind : ℕ) (body : List ℕ) (r : Record) → AreBytes body → read_in all kind body ≡ Some r → Gave kind body r
-in_takes [] laws kind body r fits e = absurd cc
-in_takes (x ∷ all) laws kind body r fits e = in_step x kind body r (read_in all kind body) (eqb x.0 kind) refl fits laws.0 (in_takes all laws.1 kind body r fits) e
-
-other_laws : AllByRecursion BodyReads others
-other_laws = (row_insert_takes, (row_delete_takes, (key_insert_takes, (key_delete_takes, (clr_end_takes, (commit_takes, (checkpoint_takes, (create_takes, (drop_takes, (repair_takes, tt))))))))))
-
-known_takes : (redo : Option RedoKind) (kind : ℕ) (body : List ℕ) (r : Record) → redo_kind kind ≡ redo → AreBytes body → read_known redo kind body ≡ Some r → Gave kind body r
-known_takes (Some redo) kind body r is fits e =
-    subst (λ (k : ℕ). Gave k body r) (kind_found redo_kinds kind redo is) (redo_takes redo body r fits e)
-known_takes None kind body r is fits e =
-    in_takes others other_laws kind body r fits e
-
-body_takes : (kind : ℕ) (body : List ℕ) (r : Record) → AreBytes body → read_body kind body ≡ Some r → Gave kind body r
+body_takes : (byte : ℕ) (body : List ℕ) (r : Record) → AreBytes body → read_body byte body ≡ Some r → GaveBody byte body r
 unfolding read_body
-body_takes kind body r fits e = known_takes (redo_kind kind) kind body r refl fits e
+body_takes byte body r fits e =
+    let a = bind_some (kind_with byte) (λ kind. read_kind kind body) r e in
+    let gave = kind_takes a.0 body r fits a.2 in
+    record { spelled = gave.spelled; fits = gave.fits; kind = sym (kind_found record_kinds byte a.0 a.1) ∙ ap kind_byte gave.is }
 
-body_again : (r : Record) → BodyFits r → read_body (kind_number r) (body_bytes r) ≡ Some r
+body_again : (r : Record) → BodyFits r → read_body (kind_byte (kind_of r)) (body_bytes r) ≡ Some r
 unfolding read_body read_redo read_row_insert read_row_delete read_key_insert read_key_delete read_clr_end read_commit read_checkpoint read_create read_drop read_repair
 body_again (Redo kind table part page edits) fits =
-    rw (kind_again kind, whole_again _ _ _ redo_parts_read (table, (part, (page, edits))) (fits.word, (tt, (fits.low, (fits.some, (fits.few, fits.within)))))) refl
+    rw (redo_again kind, whole_again _ _ _ redo_parts_read (table, (part, (page, edits))) (fits.word, (tt, (fits.low, (fits.some, (fits.few, fits.within)))))) refl
 body_again (UndoRowInsert table prev places) fits = rw (whole_again _ _ _ row_head_read (table, (prev, places)) (fits.word, (fits.before, fits.fit))) refl
 body_again (UndoRowDelete table prev places row) fits = rw (row_head_read.again (table, (prev, places)) row (fits.word, (fits.before, fits.fit))) refl
 body_again (UndoKeyInsert table prev key target entry) fits = rw (key_head_read.again (table, (prev, (key, target))) entry (fits.word, (fits.before, (fits.known, fits.low)))) refl
@@ -206,40 +231,40 @@ record_takes bytes x fits e =
     subst (λ (y : Record × List ℕ). Takes bytes (record_bytes y.0) y.1 × RecordFits y.0) (same_Some made x c.2)
     (spelled, record { body = gave.fits; size = subst (λ (l : List ℕ). length l < 256 ^ 4) gave.spelled second.1 })
 
--- the number of a kind is a byte
-redo_low : (kind : RedoKind) → redo_number kind < 256
-redo_low kinds.InsertRowHead = lit< tt
-redo_low kinds.InsertRowTail = lit< tt
-redo_low kinds.InsertRowBlobs = lit< tt
-redo_low kinds.PurgeRowHead = lit< tt
-redo_low kinds.PurgeRowTail = lit< tt
-redo_low kinds.FreeBlocks = lit< tt
-redo_low kinds.Index = lit< tt
-redo_low kinds.IndexNewPage = lit< tt
-redo_low kinds.IndexFreePage = lit< tt
-redo_low kinds.Bitmap = lit< tt
-redo_low kinds.State = lit< tt
+-- a kind stands for a byte
+redo_low : (kind : RedoKind) → redo_byte kind < 256
+redo_low redo.InsertRowHead = lit< tt
+redo_low redo.InsertRowTail = lit< tt
+redo_low redo.InsertRowBlobs = lit< tt
+redo_low redo.PurgeRowHead = lit< tt
+redo_low redo.PurgeRowTail = lit< tt
+redo_low redo.FreeBlocks = lit< tt
+redo_low redo.Index = lit< tt
+redo_low redo.IndexNewPage = lit< tt
+redo_low redo.IndexFreePage = lit< tt
+redo_low redo.Bitmap = lit< tt
+redo_low redo.State = lit< tt
 
-kind_low : (r : Record) → kind_number r < 256
-kind_low (Redo kind table part page edits) = redo_low kind
-kind_low (UndoRowInsert table prev places) = lit< tt
-kind_low (UndoRowDelete table prev places row) = lit< tt
-kind_low (UndoKeyInsert table prev key target entry) = lit< tt
-kind_low (UndoKeyDelete table prev key target entry) = lit< tt
-kind_low (ClrEnd table undone next) = lit< tt
-kind_low Commit = lit< tt
-kind_low (Checkpoint redo dirty) = lit< tt
-kind_low (CreateTable table plain definition format) = lit< tt
-kind_low (DropTable table) = lit< tt
-kind_low (RepairTable table) = lit< tt
+kind_low : (kind : RecordKind) → kind_byte kind < 256
+kind_low (kinds.Redo kind) = redo_low kind
+kind_low kinds.RowInsert = lit< tt
+kind_low kinds.RowDelete = lit< tt
+kind_low kinds.KeyInsert = lit< tt
+kind_low kinds.KeyDelete = lit< tt
+kind_low kinds.ClrEnd = lit< tt
+kind_low kinds.Commit = lit< tt
+kind_low kinds.Checkpoint = lit< tt
+kind_low kinds.CreateTable = lit< tt
+kind_low kinds.DropTable = lit< tt
+kind_low kinds.RepairTable = lit< tt
 
 record_again : (r : Record) (rest : List ℕ) → RecordFits r → read_record (record_bytes r ++ rest) ≡ Some (r, rest)
 unfolding read_record
 record_again r rest fits =
     let body : List ℕ = body_bytes r in
-    let regrouped : record_bytes r ++ rest ≡ number 1 (kind_number r) ++ ((number 4 (length body) ++ body) ++ rest) = append_assoc (number 1 (kind_number r)) (number 4 (length body) ++ body) rest in
+    let regrouped : record_bytes r ++ rest ≡ number 1 (kind_byte (kind_of r)) ++ ((number 4 (length body) ++ body) ++ rest) = append_assoc (number 1 (kind_byte (kind_of r))) (number 4 (length body) ++ body) rest in
     ap read_record regrouped
-    ∙ rw (number_again 1 (kind_number r) ((number 4 (length body) ++ body) ++ rest) (kind_low r), counted_again 4 body rest fits.size, body_again r fits.body) refl
+    ∙ rw (number_again 1 (kind_byte (kind_of r)) ((number 4 (length body) ++ body) ++ rest) (kind_low (kind_of r)), counted_again 4 body rest fits.size, body_again r fits.body) refl
 
 pub records_read : Reads record_bytes RecordFits read_record
 records_read = record { takes = record_takes; again = record_again }

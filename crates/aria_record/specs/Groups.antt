@@ -8,6 +8,7 @@ use Rattle.aria_page.specs.declared.place.Places.{Places}
 use Rattle.aria_page.specs.Edit.{IsWithin}
 use Rattle.aria_page.specs.Lsn.{IsLsn}
 use Rattle.aria_page.specs.Word.{is_word}
+use Rattle.aria_value.specs.declared.definition.TheConstants.{MAX_KEYS}
 use Rattle.aria_value.specs.Reading.{read_definition}
 use Rattle.aria_record.specs.declared.record.Dirty.{Dirty}
 use Rattle.aria_record.specs.declared.record.Record.{Record}
@@ -98,7 +99,7 @@ pub record RowFits (table : List ℕ) (prev : Lsn) (places : Places) : Type 0 wh
 pub record KeyFits (table : List ℕ) (prev : Lsn) (key target : ℕ) : Type 0 where
   pub word : IsTrue (is_word table)
   pub before : IsLsn prev
-  pub known : key < 8
+  pub known : key < MAX_KEYS
   pub low : target < 2 ^ 40
 
 pub record ClrFits (table : List ℕ) (undone next : Lsn) : Type 0 where

@@ -1,3 +1,4 @@
+pub mod RecordKind
 pub mod Spelled
 pub mod Groups
 pub mod Reading

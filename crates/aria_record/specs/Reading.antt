@@ -3,8 +3,8 @@ use Rattle.std.specs.Prelude.{◌≡◌, ℕ, zero, suc, ◌+◌, ◌^◌, Bool,
 use Rattle.aria_page.specs.declared.edit.Edit.{Edit}
 use Rattle.aria_page.specs.declared.edit.Edit.TheVariants.{Set, Shift, Whole}
 use Rattle.aria_page.specs.declared.group.RedoKind.{RedoKind}
-use Rattle.aria_page.specs.declared.group.RedoKind.TheVariants as kinds
 use Rattle.aria_page.specs.declared.lsn.Lsn.{Lsn}
+use Rattle.aria_page.specs.declared.page.TheConstants.{BODY_BYTES}
 use Rattle.aria_page.specs.declared.place.Part.{Part}
 use Rattle.aria_page.specs.declared.place.Part.TheVariants.{Keys, Rows}
 use Rattle.aria_page.specs.declared.place.Place.{Place}
@@ -14,11 +14,14 @@ use Rattle.aria_page.specs.Number.{number_at}
 use Rattle.aria_page.specs.Lsn.{lsn_at}
 use Rattle.aria_page.specs.Text.{bytes_at, name_at, counted_at}
 use Rattle.aria_page.specs.Items.{items_at, list_at}
+use Rattle.aria_value.specs.declared.definition.TheConstants.{MAX_KEYS}
 use Rattle.aria_value.specs.Reading.{read_definition}
 use Rattle.aria_record.specs.declared.record.Dirty.{Dirty}
 use Rattle.aria_record.specs.declared.record.Record.{Record}
 use Rattle.aria_record.specs.declared.record.Record.TheVariants.{Redo, UndoRowInsert, UndoRowDelete, UndoKeyInsert, UndoKeyDelete, ClrEnd, Commit, Checkpoint, CreateTable, DropTable, RepairTable}
-use Rattle.aria_record.specs.Spelled.{redo_number}
+use Rattle.aria_record.specs.declared.record_kind.RecordKind.{RecordKind}
+use Rattle.aria_record.specs.declared.record_kind.RecordKind.TheVariants as kinds
+use Rattle.aria_record.specs.RecordKind.{kind_with}
 use Rattle.aria_record.specs.Groups.{is_group}
 
 -- ---- readers put together
@@ -90,9 +93,9 @@ read_places = read_as places_of (read_both read_place (read_both read_tail read_
 
 -- the edit stays within a body
 abbrev pub is_within : Edit → Bool
-is_within (Set at bytes) = nat_le (at + length bytes) 8181
-is_within (Shift at len to) = nat_le (at + len) 8181 && nat_le (to + len) 8181
-is_within (Whole body) = length body == 8181
+is_within (Set at bytes) = nat_le (at + length bytes) BODY_BYTES
+is_within (Shift at len to) = nat_le (at + len) BODY_BYTES && nat_le (to + len) BODY_BYTES
+is_within (Whole body) = length body == BODY_BYTES
 
 abbrev pub fitting : Edit → Option Edit
 fitting edit = if is_within edit then Some edit else None
@@ -104,7 +107,7 @@ unfoldable pub read_shift : List ℕ → Option (Edit × List ℕ)
 read_shift = read_as (λ x. fitting (Shift x.0 x.1.0 x.1.1)) (read_both (number_at 2) (read_both (number_at 2) (number_at 2)))
 
 unfoldable pub read_body_edit : List ℕ → Option (Edit × List ℕ)
-read_body_edit = read_as (λ body. Some (Whole body)) (bytes_at 8181)
+read_body_edit = read_as (λ body. Some (Whole body)) (bytes_at BODY_BYTES)
 
 unfoldable pub read_edit : List ℕ → Option (Edit × List ℕ)
 read_edit [] = None
@@ -125,9 +128,8 @@ read_edits = read_as some_edits (list_at read_edit)
 unfoldable pub read_row_head : List ℕ → Option ((List ℕ × (Lsn × Places)) × List ℕ)
 read_row_head = read_both name_at (read_both lsn_at read_places)
 
--- a key's number is below 8
 abbrev pub key_of : ℕ → Option ℕ
-key_of n = if nat_lt n 8 then Some n else None
+key_of n = if nat_lt n MAX_KEYS then Some n else None
 
 unfoldable pub read_key : List ℕ → Option (ℕ × List ℕ)
 read_key = read_as key_of (number_at 1)
@@ -159,20 +161,6 @@ unfoldable pub read_table : List ℕ → Option ((Bool × ℕ) × List ℕ)
 read_table = read_as table_of (number_at 1)
 
 -- ---- entries
-
-abbrev pub kind_in : List RedoKind → ℕ → Option RedoKind
-kind_in [] n = None
-kind_in (kind ∷ kinds) n = if redo_number kind == n then Some kind else kind_in kinds n
-
--- the kinds of edits, by their numbers
-abbrev pub redo_kinds : List RedoKind
-redo_kinds =
-    kinds.InsertRowHead ∷ kinds.InsertRowTail ∷ kinds.InsertRowBlobs ∷ kinds.PurgeRowHead ∷ kinds.PurgeRowTail ∷ kinds.FreeBlocks ∷ kinds.Index ∷ kinds.IndexNewPage
-    ∷ kinds.IndexFreePage ∷ kinds.Bitmap ∷ kinds.State ∷ []
-
--- the kind of edits with this number
-abbrev pub redo_kind : ℕ → Option RedoKind
-redo_kind = kind_in redo_kinds
 
 unfoldable pub read_redo_parts : List ℕ → Option ((List ℕ × (Part × (ℕ × List Edit))) × List ℕ)
 read_redo_parts = read_both name_at (read_both read_part (read_both read_page read_edits))
@@ -239,27 +227,25 @@ read_repair body = do
   name ← read_whole name_at body
   Some (RepairTable name)
 
-abbrev pub read_in : List (ℕ × (List ℕ → Option Record)) → ℕ → List ℕ → Option Record
-read_in [] kind body = None
-read_in (x ∷ xs) kind body = if x.0 == kind then x.1 body else read_in xs kind body
+-- the record of a kind that a body spells
+abbrev pub read_kind : RecordKind → List ℕ → Option Record
+read_kind (kinds.Redo kind) body = read_redo kind body
+read_kind kinds.RowInsert body = read_row_insert body
+read_kind kinds.RowDelete body = read_row_delete body
+read_kind kinds.KeyInsert body = read_key_insert body
+read_kind kinds.KeyDelete body = read_key_delete body
+read_kind kinds.ClrEnd body = read_clr_end body
+read_kind kinds.Commit body = read_commit body
+read_kind kinds.Checkpoint body = read_checkpoint body
+read_kind kinds.CreateTable body = read_create body
+read_kind kinds.DropTable body = read_drop body
+read_kind kinds.RepairTable body = read_repair body
 
--- the readers of the kinds from 10 to 19
-abbrev pub others : List (ℕ × (List ℕ → Option Record))
-others =
-    (10, read_row_insert) ∷ (11, read_row_delete) ∷ (12, read_key_insert) ∷ (13, read_key_delete) ∷ (14, read_clr_end) ∷ (15, read_commit) ∷ (16, read_checkpoint) ∷ (17, read_create)
-    ∷ (18, read_drop) ∷ (19, read_repair) ∷ []
-
--- the entry of a kind from 10 to 19 that a body spells
-abbrev pub read_other : ℕ → List ℕ → Option Record
-read_other = read_in others
-
-abbrev pub read_known : Option RedoKind → ℕ → List ℕ → Option Record
-read_known (Some redo) kind body = read_redo redo body
-read_known None kind body = read_other kind body
-
--- the entry of a kind that a body spells
+-- the record that a body spells behind the byte of its kind
 unfoldable pub read_body : ℕ → List ℕ → Option Record
-read_body kind body = read_known (redo_kind kind) kind body
+read_body byte body = do
+  kind ← kind_with byte
+  read_kind kind body
 
 unfoldable pub read_record : List ℕ → Option (Record × List ℕ)
 read_record bytes = do

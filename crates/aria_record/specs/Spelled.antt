@@ -3,8 +3,6 @@ use Rattle.std.specs.Prelude.{ℕ, ◌+◌, ◌-◌, ◌*◌, Bool, List, [], �
 use Rattle.std.specs.List.{flat_map}
 use Rattle.aria_page.specs.declared.edit.Edit.{Edit}
 use Rattle.aria_page.specs.declared.edit.Edit.TheVariants.{Set, Shift, Whole}
-use Rattle.aria_page.specs.declared.group.RedoKind.{RedoKind}
-use Rattle.aria_page.specs.declared.group.RedoKind.TheVariants as kinds
 use Rattle.aria_page.specs.declared.place.Part.{Part}
 use Rattle.aria_page.specs.declared.place.Part.TheVariants.{Keys, Rows}
 use Rattle.aria_page.specs.declared.place.Place.{Place}
@@ -12,8 +10,9 @@ use Rattle.aria_page.specs.declared.place.Places.{Places}
 use Rattle.aria_page.specs.Number.{number}
 use Rattle.aria_page.specs.declared.lsn.Lsn.{Lsn}
 use Rattle.aria_page.specs.Lsn.{lsn_bytes}
-use Rattle.aria_page.specs.Text.{name_bytes}
+use Rattle.aria_page.specs.Text.{counted, name_bytes}
 use Rattle.aria_page.specs.Items.{list_bytes}
+use Rattle.aria_record.specs.RecordKind.{kind_byte, kind_of}
 use Rattle.aria_record.specs.declared.record.Dirty.{Dirty}
 use Rattle.aria_record.specs.declared.record.Record.{Record}
 use Rattle.aria_record.specs.declared.record.Record.TheVariants.{Redo, UndoRowInsert, UndoRowDelete, UndoKeyInsert, UndoKeyDelete, ClrEnd, Commit, Checkpoint, CreateTable, DropTable, RepairTable}
@@ -39,7 +38,7 @@ places_bytes places = place_bytes places.head ++ (tail_bytes places.tail ++ (num
 
 -- a byte for the kind; then where, how many and which bytes, or from where, how many and to where, or a whole body
 abbrev pub edit_bytes : Edit → List ℕ
-edit_bytes (Set at bytes) = 0 ∷ (number 2 at ++ (number 2 (length bytes) ++ bytes))
+edit_bytes (Set at bytes) = 0 ∷ (number 2 at ++ counted 2 bytes)
 edit_bytes (Shift at len to) = 1 ∷ (number 2 at ++ (number 2 len ++ number 2 to))
 edit_bytes (Whole body) = 2 ∷ body
 
@@ -48,34 +47,6 @@ abbrev pub dirty_bytes : Dirty → List ℕ
 dirty_bytes dirty = name_bytes dirty.table ++ (part_bytes dirty.part ++ (number 4 dirty.page ++ lsn_bytes dirty.since))
 
 -- ---- entries
-
--- the numbers of the kinds of edits
-abbrev pub redo_number : RedoKind → ℕ
-redo_number kinds.InsertRowHead = 1
-redo_number kinds.InsertRowTail = 2
-redo_number kinds.InsertRowBlobs = 3
-redo_number kinds.PurgeRowHead = 4
-redo_number kinds.PurgeRowTail = 5
-redo_number kinds.FreeBlocks = 6
-redo_number kinds.Index = 7
-redo_number kinds.IndexNewPage = 8
-redo_number kinds.IndexFreePage = 9
-redo_number kinds.Bitmap = 20
-redo_number kinds.State = 21
-
--- the number of an entry's kind
-abbrev pub kind_number : Record → ℕ
-kind_number (Redo kind table part page edits) = redo_number kind
-kind_number (UndoRowInsert table prev places) = 10
-kind_number (UndoRowDelete table prev places row) = 11
-kind_number (UndoKeyInsert table prev key target entry) = 12
-kind_number (UndoKeyDelete table prev key target entry) = 13
-kind_number (ClrEnd table undone next) = 14
-kind_number Commit = 15
-kind_number (Checkpoint redo dirty) = 16
-kind_number (CreateTable table plain definition format) = 17
-kind_number (DropTable table) = 18
-kind_number (RepairTable table) = 19
 
 -- 0 for a transactional and 1 for a plain table of format 1, and 2 more in format 2
 abbrev pub table_number : Bool → ℕ → ℕ
@@ -105,7 +76,7 @@ body_bytes (RepairTable table) = name_bytes table
 
 -- a byte for the kind, the length of the body in 4 bytes, and the body
 abbrev pub record_bytes : Record → List ℕ
-record_bytes r = number 1 (kind_number r) ++ (number 4 (length (body_bytes r)) ++ body_bytes r)
+record_bytes r = number 1 (kind_byte (kind_of r)) ++ counted 4 (body_bytes r)
 
 -- ---- groups
 
@@ -115,4 +86,4 @@ content_bytes group = list_bytes record_bytes group
 
 -- the length of what follows in 4 bytes, and that
 abbrev pub group_bytes : List Record → List ℕ
-group_bytes group = number 4 (length (content_bytes group)) ++ content_bytes group
+group_bytes group = counted 4 (content_bytes group)

@@ -9,15 +9,18 @@
 //! `specs/Reading.antt` how they are read.
 #![tactic(auto)]
 
-mod edits;
-mod entries;
-mod fields;
+mod edit_codec;
+mod field_codec;
 mod group;
+mod group_codec;
 mod record;
-mod writing;
+mod record_codec;
+mod record_kind;
 
-pub use group::{decode_group, encode_group};
-pub use record::{Dirty, Group, Record};
+pub use group::Group;
+pub use group_codec::{decode_group, encode_group};
+pub use record::{Dirty, Record};
+pub use record_kind::RecordKind;
 
 #[cfg(test)]
 mod tests;

@@ -1,3 +1,7 @@
+ghost use Rattle.std.specs.Prelude.{◌≡◌};
+ghost use Rattle.aria_record.specs.RecordKind.{kind_of};
+
+use crate::record_kind::RecordKind;
 use aria_page::{Bytes, Edit, List, Lsn, Name, Part, Places, RedoKind};
 
 /// A page that was changed and isn't written yet, and the first log entry that changed it since it was.
@@ -77,5 +81,22 @@ pub enum Record {
     },
 }
 
-/// What the log has as one step.
-pub type Group = List<Record>;
+impl Record {
+    pub fn kind(&self) -> RecordKind
+        ensures { result ≡ kind_of self.now }
+    {
+        match self {
+            Record::Redo { kind, .. } => RecordKind::Redo(*kind),
+            Record::UndoRowInsert { .. } => RecordKind::RowInsert,
+            Record::UndoRowDelete { .. } => RecordKind::RowDelete,
+            Record::UndoKeyInsert { .. } => RecordKind::KeyInsert,
+            Record::UndoKeyDelete { .. } => RecordKind::KeyDelete,
+            Record::ClrEnd { .. } => RecordKind::ClrEnd,
+            Record::Commit => RecordKind::Commit,
+            Record::Checkpoint { .. } => RecordKind::Checkpoint,
+            Record::CreateTable { .. } => RecordKind::CreateTable,
+            Record::DropTable { .. } => RecordKind::DropTable,
+            Record::RepairTable { .. } => RecordKind::RepairTable,
+        }
+    }
+}

@@ -1,9 +1,0 @@
-use Rattle.std.proofs.Common.{◌≡◌, ◌-◌}
-use Rattle.aria_page.specs.Items.{items_at}
-use Rattle.aria_page.proofs.Items.{with_front}
-use Rattle.aria_record.specs.Reading.{read_dirty}
-use Rattle.aria_record.proofs.entries.dirties_from.Given as goal
-
--- The pages so far, and those that are left, are those of the whole.
-abbrev pub invariant-loop : goal.invariant-loop
-invariant-loop l = with_front l.dirty (items_at read_dirty (l.count - l.counter) l.rest) ≡ items_at read_dirty l.count l.bytes
