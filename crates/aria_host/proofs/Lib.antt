@@ -9,4 +9,5 @@ mod NameLists
 mod Named
 mod OnePass
 mod Table
+mod Unique
 pub mod Moments

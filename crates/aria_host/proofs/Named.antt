@@ -10,7 +10,7 @@ use Rattle.aria_host.specs.FileText.{file_text, log_text}
 use Rattle.aria_host.specs.Form.{has_word, is_table, IsNamed, NamesNone, NamesNoTable}
 
 -- texts with ends of one length are the same in both parts
-same_parts : (a b x y : List ℕ) → length x ≡ length y → a ++ x ≡ b ++ y → (a ≡ b) × (x ≡ y)
+pub same_parts : (a b x y : List ℕ) → length x ≡ length y → a ++ x ≡ b ++ y → (a ≡ b) × (x ≡ y)
 same_parts a b x y long is =
     let count : length a ≡ length b = omega (arith, ap length is, length-append a x, length-append b y, long) in
     let front : a ≡ b = sym (take-append_seam a x) ∙ ap (λ (n : ℕ). take n (a ++ x)) count ∙ ap (take (length b)) is ∙ take-append_seam b y in

@@ -1,9 +1,10 @@
 -- Which texts name a file of the program's forms.
-use Rattle.std.specs.Prelude.{◌≡◌, ◌≢◌, Bool, true, false, IsTrue, List, ℕ}
+use Rattle.std.specs.Prelude.{◌≡◌, ◌≢◌, ◌⊎◌, ◌==◌, Bool, true, false, IsTrue, List, [], ◌∷◌, ◌++◌, ℕ, count_by}
+use Rattle.std.specs.Cmp.Lexicographic.{pointwise}
 use Rattle.aria_page.specs.Word.{is_word}
 use Rattle.aria_host.specs.declared.file_name.FileName.{FileName}
 use Rattle.aria_host.specs.declared.file_name.FileName.TheVariants.{Control, Log, Keys, Rows, NewKeys, NewRows}
-use Rattle.aria_host.specs.Folder.{IsFileName}
+use Rattle.aria_host.specs.Folder.{IsFileName, same_file}
 use Rattle.aria_host.specs.FileText.{file_text}
 
 -- a table's file is named by a word
@@ -34,3 +35,11 @@ NamesNoTable text = (file : FileName) → IsTrue (is_table file) → IsTrue (has
 -- no file that the program may have is named so
 abbrev pub NamesNone : List ℕ → Type 0
 NamesNone text = (file : FileName) → ¬ (IsNamed text file)
+
+-- each file that the program may have is among the names as often as its text is among these texts
+abbrev pub AreFiles : List (List ℕ) → List FileName → Type 0
+AreFiles texts names = (f : FileName) → IsFileName f → IsTrue (has_word f) → count_by (same_file f) names ≡ count_by (pointwise ◌==◌ (file_text f)) texts
+
+-- the file of that name is added, if there is one
+abbrev pub AddsFile : List ℕ → List FileName → List FileName → Type 0
+AddsFile text old new = (NamesNone text × (new ≡ old)) ⊎ ((file : FileName) × IsNamed text file × (new ≡ old ++ file ∷ []))

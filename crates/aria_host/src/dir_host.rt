@@ -3,6 +3,7 @@ ghost use Rattle.aria_host.specs.Untold.{untold, not_told};
 ghost use Rattle.aria_host.specs.Count.{Rose};
 ghost use Rattle.aria_host.specs.Calls.{HasDiskCause, HasDiskOrMemoryCause, HasTellCause};
 ghost use Rattle.aria_host.specs.Folder.{IsFileName};
+ghost use Rattle.aria_host.specs.Form.{AreFiles};
 ghost use Rattle.aria_host.specs.Extent.{IsExtent, IsTooLong, IsFound};
 ghost use Rattle.aria_host.specs.System.{Call, IsRefused, Does, DoesWith};
 ghost use Rattle.aria_host.specs.System.Call.{Looked, Made, Removed, Listed, SyncedFolder, Read, Wrote, Cut, SyncedData, SyncedWhole, Told};
@@ -90,7 +91,7 @@ impl<S: System + Drop> Host for DirHost<S> {
     fn names(&mut self, alloc: Global) -> Result<List<FileName>, Fault>
         ensures forms { IfOk result (λ names. All IsFileName names) }
         ensures cause { HasDiskOrMemoryCause (untold self.old.disk_faults self.old.tell_faults) (untold self.new.disk_faults self.new.tell_faults) result }
-        ensures calls { IsTrue S.tells → IfOk result (λ names. (texts : List (List ℕ)) × (S.calls self.new.files.system ≡ SyncedFolder ∷ Listed texts ∷ S.calls self.old.files.system)) }
+        ensures calls { IsTrue S.tells → IfOk result (λ names. (texts : List (List ℕ)) × (S.calls self.new.files.system ≡ SyncedFolder ∷ Listed texts ∷ S.calls self.old.files.system) × AreFiles texts names) }
     {
         match self.files.names(alloc) {
             Ok(names) => Ok(names),

@@ -1,5 +1,6 @@
-ghost use Rattle.std.specs.Prelude.{◌≡◌, ◌⊎◌, ◌*◌, ◌/◌, ◌<◌, ◌^◌, ℕ, List, length, IsTrue, IfOk, IfSome, MatchOption, MatchResult, All, ◌∷◌};
+ghost use Rattle.std.specs.Prelude.{◌≡◌, ◌⊎◌, ◌*◌, ◌/◌, ◌<◌, ◌^◌, ℕ, List, length, IsTrue, IfOk, OnOk, IfSome, MatchOption, MatchResult, All, ◌∷◌};
 ghost use Rattle.aria_host.specs.Folder.{IsFileName};
+ghost use Rattle.aria_host.specs.Form.{AddsFile, AreFiles};
 ghost use Rattle.aria_host.specs.OpenTable.{IsPlace, IsClosed};
 ghost use Rattle.aria_host.specs.System.{Call, IsRefused, Does, DoesWith, Opens};
 ghost use Rattle.aria_host.specs.System.Call.{Looked, Made, Removed, Listed, SyncedFolder, Read, Wrote, Cut, SyncedData, SyncedWhole, Told};
@@ -39,15 +40,24 @@ fn fill(page: &mut Page, bytes: &[u8])
     page.put(0, bytes);
 }
 
+// Adds the file of that name, if there is one.
+fn add_file(names: &mut List<FileName>, text: &[u8]) -> Result<(), AllocError>
+    ensures { OnOk result (AddsFile text.now names.old names.new) }
+{
+    if let Some(name) = FileName::read(text) {
+        names.push(name)?;
+    }
+    Ok(())
+}
+
 // The files of the forms of `FileName` among these.
 fn forms(alloc: Global, texts: &[Bytes]) -> Result<List<FileName>, AllocError>
-    ensures { IfOk result (λ names. All IsFileName names) }
+    ensures forms { IfOk result (λ names. All IsFileName names) }
+    ensures names { IfOk result (λ names. AreFiles texts.now names) }
 {
     let mut names = List::new(alloc);
     for text in texts {
-        if let Some(name) = FileName::read(text.as_slice()) {
-            names.push(name)?;
-        }
+        add_file(&mut names, text.as_slice())?;
     }
     Ok(names)
 }
@@ -77,7 +87,7 @@ impl<S: System + Drop> OpenFiles<S> {
     /// The names of the files of the forms of `FileName`, which are on the disk then.
     pub(crate) fn names(&mut self, alloc: Global) -> io::Result<List<FileName>>
         ensures forms { IfOk result (λ names. All IsFileName names) }
-        ensures calls { IsTrue S.tells → IfOk result (λ names. (texts : List (List ℕ)) × (S.calls self.new.system ≡ SyncedFolder ∷ Listed texts ∷ S.calls self.old.system)) }
+        ensures calls { IsTrue S.tells → IfOk result (λ names. (texts : List (List ℕ)) × (S.calls self.new.system ≡ SyncedFolder ∷ Listed texts ∷ S.calls self.old.system) × AreFiles texts names) }
     {
         let texts = self.system.list(alloc)?;
         let names = forms(alloc, texts.as_slice())?;
