@@ -1,18 +1,17 @@
 -- A page that takes over the items of another.
-use Rattle.std.proofs.Common.{◌≡◌, ℕ, ◌+◌, ◌≤◌, ◌<◌, List, [], ◌∷◌, ◌++◌, length, take, drop, refl, sym, ap, subst, ◌∙◌, append_assoc, arith}
+use Rattle.std.proofs.Common.{◌≡◌, ℕ, ◌+◌, ◌≤◌, List, [], ◌++◌, length, take, refl, sym, ap, subst, ◌∙◌, append_assoc, arith}
 use Rattle.std.specs.List.{AllByRecursion}
 use Rattle.std.proofs.lemmas.List.{append-nil, take_all, length-append}
 use Rattle.aria_keypage.specs.declared.kind.Kind.{Kind}
 use Rattle.aria_keypage.specs.declared.kind.Kind.TheVariants.{Leaf, Node}
 use Rattle.aria_keypage.specs.Item.{Item, IsItem, entry_before}
-use Rattle.aria_keypage.specs.Packed.{packed_item, packed, ArePacked, IsLeft}
-use Rattle.aria_keypage.specs.Pieces.{first_packed}
+use Rattle.aria_keypage.specs.Packed.{packed_item, packed, ArePacked}
 use Rattle.aria_keypage.specs.Content.{Content, width, first_bytes, item_bytes, IsFirst, IsContent}
 use Rattle.aria_keypage.specs.Change.{Changes, patch}
 use Rattle.aria_keypage.specs.Merge.{taken_over, joined}
 use Rattle.aria_keypage.proofs.Counted.{all-append}
 use Rattle.aria_keypage.proofs.Patch.{patch-changes}
-use Rattle.aria_keypage.proofs.Spliced.{packed-behind, pieces, rest-at}
+use Rattle.aria_keypage.proofs.Spliced.{packed-behind}
 
 -- all that is taken over can be stored
 taken-fits : (l m : Kind) (between : List ℕ) (first : ℕ) (items : List Item) → m ≡ l → length between ≤ 1000 → IsFirst m first → AllByRecursion (IsItem (width m)) items → AllByRecursion (IsItem (width l)) (taken_over l between first items)

@@ -191,10 +191,6 @@ pub first-none : (width : ℕ) (entry : List ℕ) (xs : List Item) (at : ℕ) �
 unfolding first_packed
 first-none width entry xs at h = ap (first_packed width entry) (drop_all at xs h)
 
-pub rest-none : (width : ℕ) (xs : List Item) (at : ℕ) → length xs ≤ at → length (rest_packed width (drop at xs)) ≡ 0
-unfolding rest_packed
-rest-none width xs at h = ap (λ (l : List Item). length (rest_packed width l)) (drop_all at xs h)
-
 -- the first from a place on is the item there
 pub first-at : (width : ℕ) (entry : List ℕ) (xs : List Item) (at : ℕ) → at < length xs → first_packed width entry (drop at xs) ≡ packed_item width entry (item_at xs at)
 unfolding first_packed

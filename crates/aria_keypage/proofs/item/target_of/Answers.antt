@@ -1,6 +1,5 @@
-use Rattle.std.proofs.Common.{◌∙◌, ap, sym, ℕ}
+use Rattle.std.proofs.Common.{sym}
 use Rattle.aria_keypage.specs.Item.{item_at}
-use Rattle.aria_keypage.specs.StoredItem.{StoredItem}
 use Rattle.aria_keypage.specs.Content.{width}
 use Rattle.aria_keypage.proofs.Left.{left-there, left-number, item_fits}
 use Rattle.aria_keypage.proofs.item.target_of.Goals as goal

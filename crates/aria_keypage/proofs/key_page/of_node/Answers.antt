@@ -1,4 +1,4 @@
-use Rattle.std.proofs.Common.{◌∙◌, ap, sym, arith, length, refl}
+use Rattle.std.proofs.Common.{ap, sym, arith, length, refl}
 use Rattle.std.proofs.lemmas.List.{length-append}
 use Rattle.aria_page.specs.Field.{AreBytes}
 use Rattle.aria_page.specs.Number.{number}

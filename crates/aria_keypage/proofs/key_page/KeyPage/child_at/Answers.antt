@@ -1,4 +1,4 @@
-use Rattle.std.proofs.Common.{◌≡◌, ◌∙◌, ◌<◌, ◌^◌, ap, sym, subst, arith}
+use Rattle.std.proofs.Common.{◌∙◌, ◌<◌, ◌^◌, ap, sym, subst, arith}
 use Rattle.aria_keypage.specs.declared.kind.Kind.{Kind}
 use Rattle.aria_keypage.specs.Content.{Content, width}
 use Rattle.aria_keypage.specs.Child.{child_at}

@@ -1,9 +1,9 @@
-use Rattle.std.proofs.Common.{◌≡◌, ◌∙◌, ◌+◌, ◌-◌, ap, sym, subst, arith, length, List}
+use Rattle.std.proofs.Common.{◌∙◌, ◌-◌, ap, sym, subst, arith, length, List}
 use Rattle.std.specs.List.{sum_by}
 use Rattle.aria_page.specs.declared.edit.Edit.{Edit}
 use Rattle.aria_keypage.specs.Item.{Item}
 use Rattle.aria_keypage.specs.Content.{Content, width}
-use Rattle.aria_keypage.specs.Change.{Changes, edit_bytes, with_item, patch}
+use Rattle.aria_keypage.specs.Change.{Changes, edit_bytes, with_item}
 use Rattle.aria_keypage.proofs.Spliced.{inserts, patch-bytes}
 use Rattle.aria_keypage.proofs.key_page.KeyPage.insert.Goals as goal
 

@@ -1,4 +1,4 @@
-use Rattle.std.proofs.Common.{◌≡◌, ◌∙◌, ◌++◌, ap, sym, arith, List, ℕ, append_assoc}
+use Rattle.std.proofs.Common.{◌∙◌, ◌++◌, ap, sym, arith, List, ℕ, append_assoc}
 use Rattle.aria_keypage.specs.Content.{Content, width}
 use Rattle.aria_keypage.specs.Pieces.{first_packed, rest_packed}
 use Rattle.aria_keypage.proofs.Spliced.{pieces}

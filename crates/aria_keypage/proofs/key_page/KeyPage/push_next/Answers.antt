@@ -1,4 +1,4 @@
-use Rattle.std.proofs.Common.{◌≡◌, ◌∙◌, ◌++◌, ap, sym, subst, arith, length, List, ℕ}
+use Rattle.std.proofs.Common.{◌∙◌, ◌++◌, ap, sym, subst, arith, length, List, ℕ}
 use Rattle.std.specs.List.{AllByRecursion}
 use Rattle.aria_keypage.specs.Item.{IsItem, item_at}
 use Rattle.aria_keypage.specs.StoredItem.{StoredItem}
