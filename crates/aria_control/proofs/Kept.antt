@@ -6,12 +6,13 @@ use Rattle.std.proofs.lemmas.Option.{same_Some}
 use Rattle.aria_page.specs.Page.{zero_page, Sums}
 use Rattle.aria_host.specs.Folder.{Folder, put_page, with_page}
 use Rattle.aria_host.specs.State.{State}
+use Rattle.aria_host.specs.Steps.{Follows, MayWrite}
 use Rattle.aria_host.proofs.Files.{with_file-same}
 use Rattle.aria_control.specs.declared.control.Control.{Control}
 use Rattle.aria_control.specs.declared.found.Found.TheVariants.{Kept}
 use Rattle.aria_control.specs.ControlPage.{control_page, named_by, HasMagic, IsStorable}
 use Rattle.aria_control.specs.Found.{control_file, Begins, BeginsWith, HasPages, IsBlank, Finds}
-use Rattle.aria_control.specs.Written.{Keeps}
+use Rattle.aria_control.specs.Written.{IsNamed, Keeps}
 use Rattle.aria_control.proofs.Spelled.{named_again, magic_there, magic_not_zero}
 
 -- the page that is read at the front is the first one
@@ -62,10 +63,10 @@ found_same control a b same (inr (page, begins, says)) = inr (page, subst (λ (o
 
 -- the control is found in the folder and in each image once its page was put and synced
 pub kept_everywhere : (control : Control) (old new : State) → Finds (Kept control) (with_page control_file 0 (control_page control) old.folder)
-    → new.folder ≡ with_page control_file 0 (control_page control) old.folder → ((c : Folder) → new.may_leave c → c control_file ≡ new.folder control_file) → Keeps control new
+    → new.folder ≡ with_page control_file 0 (control_page control) old.folder → ((c : Folder) → new.may_leave c → IsSome (c control_file) → c control_file ≡ new.folder control_file) → Keeps control new
 kept_everywhere control old new found folder durable =
     let now : Finds (Kept control) new.folder = subst (λ (g : Folder). Finds (Kept control) g) (sym folder) found in
-    record { now = now; images = λ c leaves. found_same control new.folder c (durable c leaves) now }
+    record { now = now; images = λ c leaves there. found_same control new.folder c (durable c leaves there) now }
 
 -- a file of no pages is blank
 pub none_blank : (content : Option (List (List ℕ))) (n : ℕ) → option_map_or length content 0 ≡ n → n ≡ 0 → IsBlank content
@@ -77,3 +78,20 @@ none_blank (Some (p ∷ more)) n is none = absurd (omega (arith, is, none))
 pub pages_there : (content : Option (List (List ℕ))) (n : ℕ) → option_map_or length content 0 ≡ n → (n ≡ 0 → ⊥) → HasPages n content
 pages_there None n is some = absurd (some (sym is))
 pages_there (Some pages) n is some = ap Some is
+
+-- each image has the file once a page was written where each had it before
+pub still_named : (old new : State) (at : ℕ) (page : List ℕ) → Follows (MayWrite control_file at page) old new → IsNamed old → IsNamed new
+still_named old new at page follows named c leaves = let (d, was, step) = follows c leaves in by d (named d was) step
+  where
+    kept : (d : Folder) (put : List ℕ) → IsSome (d control_file) → c ≡ with_page control_file at put d → IsSome (c control_file)
+    kept d put was is =
+        subst (λ (o : Option (List (List ℕ))). IsSome o) (sym (ap (λ (g : Folder). g control_file) is ∙ with_file-same control_file (option_map (put_page at put) (d control_file)) d)) (some put (d control_file) was)
+      where
+        some : (put : List ℕ) (content : Option (List (List ℕ))) → IsSome content → IsSome (option_map (put_page at put) content)
+        some put None never = absurd (search rules)
+        some put (Some pages) yes' = search rules
+
+    by : (d : Folder) → IsSome (d control_file) → MayWrite control_file at page d c → IsSome (c control_file)
+    by d was (inl lost) = subst (λ (g : Folder). IsSome (g control_file)) (sym lost) was
+    by d was (inr (inl is)) = kept d page was is
+    by d was (inr (inr (log, torn, long, sums, is))) = kept d torn was is

@@ -1,5 +1,5 @@
 -- What writing the control file does to the folder.
-use Rattle.std.specs.Prelude.{◌≡◌, ◌⊎◌, ℕ, Bool, IsTrue, List}
+use Rattle.std.specs.Prelude.{◌≡◌, ◌⊎◌, ℕ, Bool, IsTrue, IsSome, List}
 use Rattle.aria_host.specs.Folder.{Folder, with_page}
 use Rattle.aria_host.specs.Steps.{Follows}
 use Rattle.aria_host.specs.State.{State}
@@ -16,16 +16,21 @@ pub record AtControl (page : List ℕ) (old : State) (c : Folder) (told : List �
   pub image : (d : Folder) × old.may_leave d × MayPut page d c
   pub told_is : told ≡ old.out
 
--- The page is put on the control file and is on the disk where that is done, and else it is put or it isn't.
+-- The page is put on the control file and is on the disk where that is done, and else it is put or it isn't. A crash
+-- that takes the file takes its name with it.
 pub record Puts (page : List ℕ) (old new : State) (done : Bool) : Type 0 where
   pub whole : IsTrue done → new.folder ≡ with_page control_file 0 page old.folder
   pub either : MayPut page old.folder new.folder
-  pub durable : IsTrue done → (c : Folder) → new.may_leave c → c control_file ≡ new.folder control_file
+  pub durable : IsTrue done → (c : Folder) → new.may_leave c → IsSome (c control_file) → c control_file ≡ new.folder control_file
   pub images : Follows (MayPut page) old new
   pub out : new.out ≡ old.out
   pub err : new.err ≡ old.err
 
--- the control is found, whatever a crash leaves
+-- the control is found, whatever a crash leaves that leaves the file
 pub record Keeps (control : Control) (s : State) : Type 0 where
   pub now : Finds (Kept control) s.folder
-  pub images : (c : Folder) → s.may_leave c → Finds (Kept control) c
+  pub images : (c : Folder) → s.may_leave c → IsSome (c control_file) → Finds (Kept control) c
+
+-- each image has the control file
+abbrev pub IsNamed : State → Type 0
+IsNamed s = (c : Folder) → s.may_leave c → IsSome (c control_file)

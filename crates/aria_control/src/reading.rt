@@ -5,7 +5,7 @@ ghost use Rattle.std.specs.List.{list_any};
 ghost use Rattle.aria_page.specs.Page.{zero_page};
 ghost use Rattle.aria_host.specs.declared.fault.Fault.TheVariants.{NotOurs};
 ghost use Rattle.aria_host.specs.Folder.{page_count};
-ghost use Rattle.aria_host.specs.Calls.{HasDiskCause, Unchanged};
+ghost use Rattle.aria_host.specs.Calls.{HasDiskCause, Narrows, Unchanged};
 ghost use Rattle.aria_control.specs.declared.found.Found.TheVariants.{Kept};
 ghost use Rattle.aria_control.specs.Found.{control_file, is_control, whole_pages, HasPages, BeginsWith, IsBlank, IsFirst, OnPage, OnBlank, Answers, Fails, FitsLength, HasReadCause, IsFoundStorable};
 
@@ -83,7 +83,7 @@ fn has_others(names: &[FileName]) -> bool
 // What a folder with a blank control file is: fresh, unless another file of the program's is there.
 fn on_blank<H: Host>(alloc: Global, host: &mut H) -> Result<Found, Fault>
     ensures found { IsTrue H.tells → Fails result ⊎ OnBlank result (H.state host.old).folder }
-    ensures same { IsTrue H.tells → Unchanged (H.state host.old) (H.state host.new) }
+    ensures same { IsTrue H.tells → Narrows (H.state host.old) (H.state host.new) }
     ensures cause { HasReadCause (H.state host.old) (H.state host.new) result }
     ensures storable { IfOk result IsFoundStorable }
 {
@@ -110,7 +110,7 @@ fn on_page(page: &Page) -> Result<Found, Fault>
     Ok(Found::Kept(named_by(page)))
 }
 
-/// What the folder's control file is. Nothing is changed.
+/// What the folder's control file is. Nothing is changed; behind a list of the folder's names a crash may leave less.
 ///
 /// `FileMissing` where it is absent, empty or one page of zeros beside another file of the program's: a control file was
 /// here, and without it nobody knows where redo starts. `NotOurs` where its length is no multiple of a page's, or its page
@@ -124,7 +124,7 @@ pub fn read<H: Host>(alloc: Global, host: &mut H) -> Result<Found, Fault>
     // A length that is no multiple of a page's, as the host's look found it, is answered by NotOurs.
     ensures length { Fails result ⊎ ((looked : Option Extent) × H.may_find host.old control_file looked × FitsLength looked result) }
     ensures storable { IfOk result IsFoundStorable }
-    ensures same { IsTrue H.tells → Unchanged (H.state host.old) (H.state host.new) }
+    ensures same { IsTrue H.tells → Narrows (H.state host.old) (H.state host.new) }
     ensures cause { HasReadCause (H.state host.old) (H.state host.new) result }
 {
     let looked = host.look(&FileName::Control)?;

@@ -45,11 +45,11 @@ weakened old new P Q run implies = record {
 pub looks : (old new : State) → Unchanged old new → Narrows old new
 looks old new same = record { folder = same.folder; no_more = same.images.no_more; tells = same.tells }
 
--- names are brought to the disk behind a call that only looks
-pub looked_first : (a b c : State) → ((t : ℕ) (f : Folder) → t ≤ a.moment → a.may_leave f → a.since t f a.out) → Unchanged a b → Narrows b c → Narrows a c
-looked_first a b c counts first next = record {
+-- one such call, or run of them, after another
+pub narrows_then : (a b c : State) → ((t : ℕ) (f : Folder) → t ≤ a.moment → a.may_leave f → a.since t f a.out) → Narrows a b → Narrows b c → Narrows a c
+narrows_then a b c counts first next = record {
   folder = next.folder ∙ first.folder;
-  no_more = λ f leaves. first.images.no_more f (next.no_more f leaves);
+  no_more = λ f leaves. first.no_more f (next.no_more f leaves);
   tells = record {
     out = next.tells.out ∙ first.tells.out;
     err = next.tells.err ∙ first.tells.err;
@@ -70,4 +70,4 @@ looked_first a b c counts first next = record {
 
     at_first : (t : ℕ) (f : Folder) (told : List ℕ) → t ≤ a.moment → b.may_leave f × (n : ℕ) × (told ≡ a.out ++ take n []) → a.since t f told
     at_first t f told le (leaves, n, is) =
-        subst (λ (l : List ℕ). a.since t f l) (sym (is ∙ ap (λ (l : List ℕ). a.out ++ l) (none_of n) ∙ append-nil a.out)) (counts t f le (first.images.no_more f leaves))
+        subst (λ (l : List ℕ). a.since t f l) (sym (is ∙ ap (λ (l : List ℕ). a.out ++ l) (none_of n) ∙ append-nil a.out)) (counts t f le (first.no_more f leaves))
