@@ -1,10 +1,11 @@
 -- That a folder comes to the disk as it reads, whatever a crash might have left of it.
 use Rattle.std.proofs.Common.{◌≡◌, inl, inr, ⊎_elim, ◌⊎◌, ℕ, Bool, true, false, IsTrue, Option, None, Some, unwrap_or, List, [], ◌++◌, take, refl, sym, ◌∙◌, ap, subst}
+use Rattle.std.specs.Prelude.{IsSome}
 use Rattle.std.proofs.lemmas.List.{append-nil}
 use Rattle.aria_host.specs.Folder.{Folder, with_file}
 use Rattle.aria_host.specs.State.{State}
 use Rattle.aria_host.specs.Steps.{MayMake}
-use Rattle.aria_host.specs.Calls.{Creates, Syncs, Unchanged, TellsNothing}
+use Rattle.aria_host.specs.Calls.{Creates, Syncs, Narrows, TellsNothing}
 use Rattle.aria_host.proofs.Files.{with_file-same, with_file-other}
 use Rattle.aria_host.proofs.Moments.{started, goes_on, joined}
 use Rattle.aria_journal.specs.Log.{log_file, log_pages}
@@ -34,9 +35,9 @@ one_opens old new done only tells leaves each = record {
   each = each;
 }
 
--- a call that only looks
-pub unchanged_opens : (old new : State) → OnlyNow old → Unchanged old new → Opens old new false
-unchanged_opens old new only same = one_opens old new false only same.tells (λ w reads c left. inl (same.images.no_more c left)) (λ w reads done. absurd (cc))
+-- a call that changes nothing
+pub narrows_opens : (old new : State) → OnlyNow old → Narrows old new → Opens old new false
+narrows_opens old new only same = one_opens old new false only same.tells (λ w reads c left. inl (same.no_more c left)) (λ w reads done. absurd (cc))
 
 -- the log's file was made, which was not there
 pub created_opens : (old new : State) (done : Bool) → OnlyNow old → old.folder log_file ≡ None → Creates log_file old new done → Opens old new done
@@ -58,25 +59,25 @@ created_opens old new done only absent makes = one_opens old new done only makes
     surely w reads is c d was (inl made) = made_holds w reads c d was made
     surely w reads is c d was (inr stays) = let never = stays.0 in absurd (cc)
 
--- the log's file was brought to the disk
-pub synced_opens : (old new : State) (done : Bool) → OnlyNow old → Syncs log_file old new done → Opens old new done
-synced_opens old new done only syncs = one_opens old new done only syncs.tells
+-- the log's file was brought to the disk, where its name was
+pub synced_opens : (old new : State) (done : Bool) → OnlyNow old → ((c : Folder) → old.may_leave c → IsSome (c log_file)) → Syncs log_file old new done → Opens old new done
+synced_opens old new done only there syncs = one_opens old new done only syncs.tells
     (λ w reads c left. inl (syncs.no_more c left))
-    (λ w reads is c left. same_log c old.folder w (reads.alone c (syncs.no_more c left)) (ap (λ (o : Option (List (List ℕ))). unwrap_or o []) (syncs.durable is c left)) reads.holds)
+    (λ w reads is c left. same_log c old.folder w (reads.alone c (syncs.no_more c left)) (ap (λ (o : Option (List (List ℕ))). unwrap_or o []) (syncs.durable is c left (there c (syncs.no_more c left)))) reads.holds)
 
--- behind a call that only looks
-pub looked_opens : (a b c : State) (done : Bool) → OnlyNow a → Unchanged a b → Opens b c done → Opens a c done
+-- behind a call that changes nothing
+pub looked_opens : (a b c : State) (done : Bool) → OnlyNow a → Narrows a b → Opens b c done → Opens a c done
 looked_opens a b c done only same then = record {
   moments = λ w reads.
-      joined a b c (OpensAs a w) (OpensAs b w) ((unchanged_opens a b only same).moments w reads) (then.moments w (still w reads))
-      (λ f told (left, is). (⊎_elim (λ was. inl (same.images.no_more f was)) (λ holds. inr holds) left, is ∙ same.tells.out));
+      joined a b c (OpensAs a w) (OpensAs b w) ((narrows_opens a b only same).moments w reads) (then.moments w (still w reads))
+      (λ f told (left, is). (⊎_elim (λ was. inl (same.no_more f was)) (λ holds. inr holds) left, is ∙ same.tells.out));
   each = λ w reads is. then.each w (still w reads) is;
 }
   where
     still : (w : World) → ReadsAs a w → ReadsAs b w
     still w reads = record {
       holds = subst (λ (g : Folder). Holds g w) (sym same.folder) reads.holds;
-      alone = λ f left. reads.alone f (same.images.no_more f left);
+      alone = λ f left. reads.alone f (same.no_more f left);
     }
 
 -- once each image holds the tables, they keep them

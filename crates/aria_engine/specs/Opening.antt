@@ -11,8 +11,9 @@ use Rattle.aria_host.specs.Count.{Rose}
 use Rattle.aria_host.specs.FileText.{file_text}
 use Rattle.aria_host.specs.Folder.{Folder, IsFileName, same_file}
 use Rattle.aria_host.specs.State.{State, LeavesOnly}
+use Rattle.aria_host.specs.Calls.{Narrows}
 use Rattle.aria_journal.specs.Front.{damaged_at}
-use Rattle.aria_journal.specs.Log.{log_file, log_pages, log_of, IsOpened}
+use Rattle.aria_journal.specs.Log.{log_file, log_pages, log_of, IsOpened, LogMoments}
 use Rattle.aria_model.specs.World.{World, empty_world}
 use Rattle.aria_model.specs.Step.{step}
 use Rattle.aria_model.specs.Script.{no_exception, world_after}
@@ -69,14 +70,20 @@ IsLogDamage page folder = (damaged_at (log_pages folder) ≡ Some page) ⊎ IsLi
 abbrev pub HasLogCause : Bool → Fault → State → State → Type 0
 HasLogCause tells (Memory error) old new = Unit {0}
 HasLogCause tells Disk old new = Rose old.disk_faults new.disk_faults
-HasLogCause tells (LogDamaged file page) old new = IsTrue tells → (file ≡ 1) × IsLogDamage page old.folder × (new.folder ≡ old.folder)
+HasLogCause tells (LogDamaged file page) old new = IsTrue tells → (file ≡ 1) × IsLogDamage page old.folder × Narrows old new
 HasLogCause tells _ old new = ⊥
 
--- At each moment each image holds the tables that all images held before, and nothing is told.
+-- At most the log's file is changed, in the folder and in what a crash at any moment may leave, and nothing is told.
+abbrev pub ChangesLogAlone : State → State → Type 0
+ChangesLogAlone old new = LogMoments old new (λ content. Unit {0})
+
+-- At each moment each image holds the tables that all images held before, and nothing is told. Whatever they held, at
+-- most the log's file is changed.
 pub record Keeps (old new : State) : Type 0 where
   pub moments : (world : World) → EachHolds old world → LeavesOnly old new (StillHolds world old.out)
   pub each : (world : World) → EachHolds old world → EachHolds new world
   pub silent : IsSilent old new
+  pub others : ChangesLogAlone old new
 
 -- A folder that reads as some tables is opened, whatever a crash might have left of it: meanwhile a crash leaves that or
 -- these tables, and once it is done these tables alone.
@@ -84,9 +91,9 @@ pub record Opens (old new : State) (done : Bool) : Type 0 where
   pub moments : (world : World) → ReadsAs old world → LeavesOnly old new (OpensAs old world)
   pub each : (world : World) → ReadsAs old world → IsTrue done → EachHolds new world
 
--- the log's pages are as they were: the folder is, or an empty file was made
-abbrev pub SameLog : Folder → Folder → Type 0
-SameLog old new = (new ≡ old) ⊎ ((log_pages old ≡ []) × (log_pages new ≡ []))
+-- the log's pages are as they were: nothing was changed, or an empty file was made
+abbrev pub SameLog : State → State → Type 0
+SameLog old new = Narrows old new ⊎ ((log_pages old.folder ≡ []) × (log_pages new.folder ≡ []))
 
 -- the log that was found holds these tables
 pub record HoldsLog (folder : Folder) (world : World) : Type 0 where

@@ -4,6 +4,7 @@ use Rattle.aria_host.specs.declared.fault.Fault.{Fault}
 use Rattle.aria_host.specs.declared.fault.Fault.TheVariants.{Memory, Disk, Tell, NotOurs, LogDamaged}
 use Rattle.aria_host.specs.Count.{Rose}
 use Rattle.aria_host.specs.State.{Folder, State}
+use Rattle.aria_host.specs.Calls.{Narrows}
 use Rattle.aria_journal.specs.Log.{IsLog}
 use Rattle.aria_model.specs.World.{World, empty_world}
 use Rattle.aria_model.specs.declared.refusal.Exception.{Exception}
@@ -58,12 +59,12 @@ pub record IsSilent (old new : State) : Type 0 where
   pub err : new.err ≡ old.err
 
 -- The cause of a fault as a store is opened: the disk failed, memory is short, or this damage stands in the folder,
--- which is left as it was.
+-- in which nothing is changed.
 abbrev pub HasOpenCause : Bool → Fault → State → State → Type 0
 HasOpenCause tells (Memory error) old new = Unit {0}
 HasOpenCause tells Disk old new = Rose old.disk_faults new.disk_faults
-HasOpenCause tells (LogDamaged file page) old new = IsTrue tells → IsDamage (LogDamaged file page) old.folder × (new.folder ≡ old.folder)
-HasOpenCause tells (NotOurs file) old new = IsTrue tells → IsDamage (NotOurs file) old.folder × (new.folder ≡ old.folder)
+HasOpenCause tells (LogDamaged file page) old new = IsTrue tells → IsDamage (LogDamaged file page) old.folder × Narrows old new
+HasOpenCause tells (NotOurs file) old new = IsTrue tells → IsDamage (NotOurs file) old.folder × Narrows old new
 HasOpenCause tells _ old new = ⊥
 
 -- a crash leaves these tables, with nothing more told

@@ -7,8 +7,8 @@ ghost use Rattle.aria_journal.specs.Log.{log_file};
 ghost use Rattle.aria_model.specs.Grammar.{is_blank_line};
 ghost use Rattle.aria_model.specs.World.{World};
 ghost use Rattle.aria_engine.specs.Done.{Does, DoesPart};
-ghost use Rattle.aria_engine.specs.Holds.{Holds, EachHolds};
-ghost use Rattle.aria_engine.specs.Opening.{Opens};
+ghost use Rattle.aria_engine.specs.Holds.{Holds, EachHolds, AreLogAlone};
+ghost use Rattle.aria_engine.specs.Opening.{ChangesLogAlone, Opens};
 ghost use Rattle.aria_engine.specs.Outcomes.{was_refused, was_blank};
 ghost use Rattle.aria_engine.specs.Store.{tables_of, count_of, pages_of, IsFresh, IsRunning, IsSilent, StillHolds, SameFaults, NoFewerFaults, HasOpenCause, HasCause};
 
@@ -52,6 +52,8 @@ impl<'a, H: Host> Engine<'a, H> {
         ensures each { IsTrue H.tells → (world : World) → EachHolds (H.state host.old) world
             → MatchResult result (λ engine. EachHolds (H.state engine.host.now) world) (λ lost. EachHolds (H.state lost.1.now) world) }
         ensures opens { IsTrue H.tells → MatchResult result (λ engine. Opens (H.state host.old) (H.state engine.host.now) true) (λ lost. Opens (H.state host.old) (H.state lost.1.now) false) }
+        ensures others { IsTrue H.tells → MatchResult result (λ engine. ChangesLogAlone (H.state host.old) (H.state engine.host.now)) (λ lost. ChangesLogAlone (H.state host.old) (H.state lost.1.now)) }
+        ensures alone { IsTrue H.tells → IfOk result (λ engine. AreLogAlone (H.state engine.host.now)) }
         ensures cause { IfErr result (λ lost. HasOpenCause H.tells lost.0 (H.state host.old) (H.state lost.1.now)) }
         ensures calm { IfOk result (λ engine. SameFaults (H.state host.old) (H.state engine.host.now)) }
         ensures later { MatchResult result (λ engine. NoFewerFaults (H.state host.old) (H.state engine.host.now)) (λ lost. NoFewerFaults (H.state host.old) (H.state lost.1.now)) }

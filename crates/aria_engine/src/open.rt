@@ -3,12 +3,12 @@
 ghost use Rattle.std.specs.Prelude.{◌≡◌, ◌≤◌, map, length, IfOk, IfErr, OnOk, IsTrue, None, is_ok};
 ghost use Rattle.aria_host.specs.Folder.{page_count};
 ghost use Rattle.aria_host.specs.State.{LeavesOnly};
-ghost use Rattle.aria_host.specs.Calls.{HasDiskCause, Unchanged};
+ghost use Rattle.aria_host.specs.Calls.{HasDiskCause, HaveNames, Unchanged};
 ghost use Rattle.aria_journal.specs.declared.opened.Frame.{Frame};
 ghost use Rattle.aria_journal.specs.Log.{log_file, log_pages, IsLogAtRest};
 ghost use Rattle.aria_model.specs.World.{World};
-ghost use Rattle.aria_engine.specs.Holds.{Holds, EachHolds};
-ghost use Rattle.aria_engine.specs.Opening.{HasLogCause, HasReplayCause, HoldsLog, Keeps, Opens, Recovered, Replays, SameLog};
+ghost use Rattle.aria_engine.specs.Holds.{Holds, EachHolds, AreLogAlone};
+ghost use Rattle.aria_engine.specs.Opening.{ChangesLogAlone, HasLogCause, HasReplayCause, HoldsLog, Keeps, Opens, Recovered, Replays, SameLog};
 ghost use Rattle.aria_engine.specs.Store.{tables_of, pages_of, IsFresh, IsRunning, IsSilent, StillHolds, SameFaults, NoFewerFaults, HasOpenCause};
 
 use crate::others::find_other;
@@ -21,12 +21,14 @@ use aria_memory::Tables;
 use aria_page::Bytes;
 use std::alloc::Global;
 
-// Makes the log's file where it isn't there, and else brings it to the disk as it reads.
+// Makes the log's file where it isn't there, and else brings it to the disk as it reads. The names of the folder's files
+// are on the disk already: a sync says nothing of them.
 fn settle<H: Host>(host: &mut H) -> Result<(), Fault>
+    requires { IsTrue H.tells → HaveNames (H.state host.old) }
     ensures keeps { IsTrue H.tells → Keeps (H.state host.old) (H.state host.new) }
     ensures opens { IsTrue H.tells → Opens (H.state host.old) (H.state host.new) (is_ok result) }
     ensures rest { IsTrue H.tells → OnOk result (IsLogAtRest (H.state host.new)) }
-    ensures same { IsTrue H.tells → OnOk result (SameLog (H.state host.old).folder (H.state host.new).folder) }
+    ensures same { IsTrue H.tells → OnOk result (SameLog (H.state host.old) (H.state host.new)) }
     ensures cause { HasDiskCause (H.state host.old) (H.state host.new) result }
 {
     match host.look(&FileName::Log(FILE))? {
@@ -74,6 +76,7 @@ fn recover<H: Host>(alloc: Global, host: &mut H) -> Result<Store, Fault>
 
 // The store of the folder's log.
 fn resume<H: Host>(alloc: Global, host: &mut H) -> Result<Store, Fault>
+    requires { IsTrue H.tells → HaveNames (H.state host.old) }
     ensures fresh { IfOk result (λ store. IsFresh store) }
     ensures holds { IsTrue H.tells → IfOk result (λ store. HoldsLog (H.state host.old).folder (tables_of store)) }
     ensures running { IsTrue H.tells → IfOk result (λ store. IsRunning store (H.state host.new)) }
@@ -110,7 +113,8 @@ impl Store {
     }
 
     /// Opens the store of the folder: reads the tables from its log, and leaves the log ready for more. A folder without
-    /// a log has no tables. Where the folder is damaged it is left as it is.
+    /// a log has no tables. Where the folder is damaged it is left as it is. Files other than the log's are left as they
+    /// are, whatever is answered.
     pub fn open<H: Host>(alloc: Global, host: &mut H) -> Result<Store, Fault>
         ensures fresh { IfOk result (λ store. IsFresh store) }
         ensures holds { IsTrue H.tells → IfOk result (λ store. Holds (H.state host.old).folder (tables_of store)) }
@@ -121,6 +125,8 @@ impl Store {
         ensures opens { IsTrue H.tells → Opens (H.state host.old) (H.state host.new) (is_ok result) }
         ensures silent { IsTrue H.tells → IsSilent (H.state host.old) (H.state host.new) }
         ensures each { IsTrue H.tells → (world : World) → EachHolds (H.state host.old) world → EachHolds (H.state host.new) world }
+        ensures others { IsTrue H.tells → ChangesLogAlone (H.state host.old) (H.state host.new) }
+        ensures alone { IsTrue H.tells → OnOk result (AreLogAlone (H.state host.new)) }
         ensures cause { IfErr result (λ fault. HasOpenCause H.tells fault (H.state host.old) (H.state host.new)) }
         ensures calm { OnOk result (SameFaults (H.state host.old) (H.state host.new)) }
         ensures later { NoFewerFaults (H.state host.old) (H.state host.new) }

@@ -7,7 +7,7 @@ ghost use Rattle.std.specs.Cmp.Lexicographic.{slice_cmp};
 ghost use Rattle.std.specs.Ordering.{nat_cmp};
 ghost use Rattle.aria_host.specs.declared.file_name.FileName.{FileName};
 ghost use Rattle.aria_host.specs.Folder.{IsFileName};
-ghost use Rattle.aria_host.specs.Calls.{HasDiskOrMemoryCause, Unchanged};
+ghost use Rattle.aria_host.specs.Calls.{HasDiskOrMemoryCause, HaveNames, Narrows};
 ghost use Rattle.aria_engine.specs.Holds.{IsLogAlone, IsFirstOther};
 ghost use Rattle.aria_engine.specs.Opening.{IsFirst};
 
@@ -79,10 +79,12 @@ fn first_other(alloc: Global, files: &[FileName]) -> Result<First, AllocError>
     Ok(first)
 }
 
-/// The first of the folder's files other than the log's, by the bytes of its name.
+/// The first of the folder's files other than the log's, by the bytes of its name. The folder's names are on the disk
+/// then.
 pub(crate) fn find_other<H: Host>(alloc: Global, host: &mut H) -> Result<Option<FileName>, Fault>
     ensures found { IsTrue H.tells → IfOk result (λ found. MatchOption found (IsLogAlone (H.state host.old).folder) (λ file. IsFirstOther file (H.state host.old).folder)) }
-    ensures same { IsTrue H.tells → Unchanged (H.state host.old) (H.state host.new) }
+    ensures named { IsTrue H.tells → OnOk result (HaveNames (H.state host.new)) }
+    ensures same { IsTrue H.tells → Narrows (H.state host.old) (H.state host.new) }
     ensures cause { HasDiskOrMemoryCause (H.state host.old) (H.state host.new) result }
 {
     let files = host.names(alloc)?;

@@ -11,6 +11,7 @@ use Rattle.aria_engine.specs.Store.{tables_of}
 use Rattle.aria_journal.specs.declared.opened.Frame.{Frame}
 use Rattle.aria_host.specs.declared.fault.Fault.{Fault}
 use Rattle.aria_engine.specs.declared.store.Store.{Store}
+use Rattle.aria_host.proofs.Moments.{looks}
 use Rattle.aria_engine.proofs.Settling.{recovered_of, recovered_cause}
 use Rattle.aria_engine.proofs.open.recover.Goals as goal
 
@@ -34,5 +35,5 @@ returns-in-Ok-Sound-clause-cause g c =
     (λ told.
     let folder = (g.H.Host.state c.args.host.now).folder in
     let found : Finds (Sound c.in-Ok-Sound.log c.in-Ok-Sound.frames) folder = rw c.in-Ok-Sound.field-0-is at (c.in-Ok-Sound.ensures.found told) in
-    (found.0.sound, ap (map (λ (f : Frame). f.bytes)) c.as_slice.ensures ∙ found.1, ap (map (λ (f : Frame). f.page)) c.as_slice.ensures ∙ found.2, (c.in-Ok-Sound.ensures.same told).folder)) is)
+    (found.0.sound, ap (map (λ (f : Frame). f.bytes)) c.as_slice.ensures ∙ found.1, ap (map (λ (f : Frame). f.page)) c.as_slice.ensures ∙ found.2, looks (g.H.Host.state c.args.host.now) (g.H.Host.state c.open.new.host) (c.in-Ok-Sound.ensures.same told))) is)
     c.rebuild.ensures.cause

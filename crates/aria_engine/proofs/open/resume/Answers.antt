@@ -14,7 +14,7 @@ returns-in-Err-clause-keeps g c = λ told.
 pub returns-in-Err-clause-cause : goal.returns-in-Err-clause-cause
 returns-in-Err-clause-cause g c =
     settled_cause g.H.Host.tells c.in-Err.fault (g.H.Host.state c.args.host.now) (g.H.Host.state c.settle.new.host) (g.H.Host.state c.recover.new.host)
-    c.in_ok-settle.ensures.cause.calm (λ told. c.in_ok-settle.ensures.same told) (λ told. (c.recover.ensures.same told).folder) c.in-Err.ensures.cause
+    c.in_ok-settle.ensures.cause.calm (λ told t f le leaves. g.met.H.Host.counts_now c.args.host.now t f told le leaves) (λ told. c.in_ok-settle.ensures.same told) c.in-Err.ensures.cause
 
 pub returns-in-Err-start-clause-keeps : goal.returns-in-Err-start-clause-keeps
 returns-in-Err-start-clause-keeps g c = λ told.
