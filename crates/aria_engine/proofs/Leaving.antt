@@ -1,11 +1,13 @@
 -- What a crash leaves of lines that are done one after another.
 use Rattle.std.proofs.Common.{◌≡◌, ℕ, ◌+◌, ◌≤◌, min, List, ◌++◌, length, take, sym, ap, subst, ◌∙◌, arith}
+use Rattle.std.specs.List.{flat_map}
+use Rattle.std.proofs.lemmas.Grind.{flat_map-append}
 use Rattle.std.proofs.lemmas.List.{append-nil, append_assoc, take-append-le, take_min}
 use Rattle.std.proofs.Math.Seq.{take-append-add}
 use Rattle.aria_host.specs.State.{Folder}
 use Rattle.aria_model.specs.World.{World}
-use Rattle.aria_model.specs.Script.{Exceptions, statements, world_after, after, told, acknowledged}
-use Rattle.aria_model.proofs.Scripts.{from_nth, statements-append, told-append, world_after-append}
+use Rattle.aria_model.specs.Script.{Exceptions, statements, outcomes, outcome_text, world_after, after, told, told_first, acknowledged}
+use Rattle.aria_model.proofs.Scripts.{from_nth, statements-append, outcomes-append, told-append, world_after-append}
 use Rattle.aria_model.proofs.Acknowledged.{acknowledged-append, told_ends}
 use Rattle.aria_engine.specs.Holds.{Holds}
 use Rattle.aria_engine.specs.Done.{Leaves}
@@ -26,6 +28,21 @@ told_behind w w1 a b xs n is =
     ∙ sym (take-append-add (told w a xs) (told (world_after w (statements a) xs) b (from_nth xs (length (statements a)))) n)
     ∙ ap (take (length (told w a xs) + n)) (sym (told-append w a b xs))
 
+-- what the first statements tell is the same with others behind them
+pub first_front : (w : World) (a b : List (List ℕ)) (xs : Exceptions) (n : ℕ) → n ≤ length (statements a) → told_first w a xs n ≡ told_first w (a ++ b) xs n
+first_front w a b xs n low =
+    ap (λ (ls : List (List ℕ)). flat_map outcome_text (outcomes w ls xs)) (sym (take-append-le n (statements a) (statements b) low) ∙ ap (take n) (sym (statements-append a b)))
+
+-- and behind all that lines tell comes what the first of the others tell
+pub first_behind : (w w1 : World) (a b : List (List ℕ)) (xs : Exceptions) (n : ℕ) → w1 ≡ world_after w (statements a) xs
+    → told w a xs ++ told_first w1 b (from_nth xs (length (statements a))) n ≡ told_first w (a ++ b) xs (length (statements a) + n)
+first_behind w w1 a b xs n is =
+    let later = from_nth xs (length (statements a)) in
+    ap (λ (v : World). told w a xs ++ told_first v b later n) is
+    ∙ sym (flat_map-append outcome_text (outcomes w (statements a) xs) (outcomes (world_after w (statements a) xs) (take n (statements b)) later))
+    ∙ ap (flat_map outcome_text) (sym (outcomes-append w (statements a) (take n (statements b)) xs))
+    ∙ ap (λ (ls : List (List ℕ)). flat_map outcome_text (outcomes w ls xs)) (sym (take-append-add (statements a) (statements b) n) ∙ ap (take (length (statements a) + n)) (sym (statements-append a b)))
+
 after_front : (w : World) (a b : List (List ℕ)) (xs : Exceptions) (n : ℕ) → n ≤ length (statements a) → after w a xs n ≡ after w (a ++ b) xs n
 after_front w a b xs n low =
     ap (λ (ls : List (List ℕ)). world_after w ls xs) (sym (take-append-le n (statements a) (statements b) low) ∙ ap (take n) (sym (statements-append a b)))
@@ -40,13 +57,13 @@ after_behind w w1 a b xs n is =
 -- what a crash leaves of lines, it leaves of them and others
 pub leaves_front : (w : World) (a b : List (List ℕ)) (xs : Exceptions) (out : List ℕ) (c : Folder) (told_by : List ℕ) → Leaves w a xs out c told_by → Leaves w (a ++ b) xs out c told_by
 leaves_front w a b xs out c told_by leaves =
-    let same = told_front w a b xs leaves.part in
+    let same = first_front w a b xs leaves.count leaves.within in
     record {
       count = leaves.count;
       within = omega (arith, leaves.within, length-statements a b);
-      part = min leaves.part (length (told w a xs));
-      told_is = leaves.told_is ∙ ap (λ (t : List ℕ). out ++ t) same;
-      acked = subst (λ (t : List ℕ). acknowledged t ≤ leaves.count) same leaves.acked;
+      part = leaves.part;
+      told_is = leaves.told_is ∙ ap (λ (t : List ℕ). out ++ take leaves.part t) same;
+      acked = subst (λ (t : List ℕ). acknowledged (take leaves.part t) ≤ leaves.count) same leaves.acked;
       holds = subst (λ (v : World). Holds c v) (after_front w a b xs leaves.count leaves.within) leaves.holds;
     }
 
@@ -56,8 +73,9 @@ pub leaves_behind : (w w1 : World) (a b : List (List ℕ)) (xs : Exceptions) (ou
     → Leaves w1 b (from_nth xs (length (statements a))) out1 c told_by → Leaves w (a ++ b) xs out c told_by
 leaves_behind w w1 a b xs out out1 c told_by world_is out_is acked leaves =
     let later = from_nth xs (length (statements a)) in
-    let part = take leaves.part (told w1 b later) in
-    let same = told_behind w w1 a b xs leaves.part world_is in
+    let part = take leaves.part (told_first w1 b later leaves.count) in
+    let same : told w a xs ++ part ≡ take (length (told w a xs) + leaves.part) (told_first w (a ++ b) xs (length (statements a) + leaves.count)) =
+    sym (take-append-add (told w a xs) (told_first w1 b later leaves.count) leaves.part) ∙ ap (take (length (told w a xs) + leaves.part)) (first_behind w w1 a b xs leaves.count world_is) in
     let sum : acknowledged (told w a xs ++ part) ≡ acknowledged (told w a xs) + acknowledged part = acknowledged-append (told w a xs) part (told_ends w a xs) in
     let few : acknowledged (told w a xs ++ part) ≤ length (statements a) + leaves.count = omega (arith, sum, acked, leaves.acked) in
     record {

@@ -15,7 +15,7 @@ use Rattle.aria_model.specs.declared.refusal.Exception.{Exception}
 use Rattle.aria_model.specs.declared.refusal.Met.{Met}
 use Rattle.aria_model.specs.World.{World, empty_world}
 use Rattle.aria_model.specs.Step.{Outcome, step}
-use Rattle.aria_model.specs.Script.{Exceptions, no_exception, statements, outcomes, world_after, after, told, any_refused, acknowledged, is_refused, outcome_text}
+use Rattle.aria_model.specs.Script.{Exceptions, no_exception, statements, outcomes, world_after, after, told, told_first, any_refused, acknowledged, is_refused, outcome_text}
 use Rattle.aria_model.specs.Journal.{is_change, first_no_change, met_at}
 use Rattle.aria_model.proofs.Scripts.{world_after-append}
 use Rattle.aria_model.proofs.Journal.{first_no_change-push, met_at-last, met_at-other, met_at-past}
@@ -156,6 +156,7 @@ runs_on line before now final refused changed s0 s1 running t same log = record 
 record One (w new : World) (line text : List ℕ) (xs : Exceptions) (refused : Bool) : Type 0 where
   size : length (statements (line ∷ [])) ≡ 1
   told_is : told w (line ∷ []) xs ≡ text
+  first_told : told_first w (line ∷ []) xs 1 ≡ text
   world : new ≡ world_after w (statements (line ∷ [])) xs
   first : new ≡ after w (line ∷ []) xs 1
   refused_is : refused ≡ any_refused w (line ∷ []) xs
@@ -176,11 +177,12 @@ one_of line before now final refused changed xs t same met =
     let here : statements (line ∷ []) ≡ line ∷ [] = ap (λ (b : Bool). cond (not b) (line ∷ []) []) t.some in
     let notes : Notes before.tally final.tally x = subst (λ (y : Tally). Notes before.tally y x) (sym same) t.notes in
     let first : xs 0 ≡ x = first_met before final x xs notes met in
+    let text : outcome_text (step w line (xs 0)) ++ [] ≡ now.text = append-nil (outcome_text (step w line (xs 0))) ∙ ap (λ (y : Option Exception). outcome_text (step w line y)) first ∙ sym t.text in
     let new : tables_of now ≡ (step w line (xs 0)).world = t.world ∙ ap (λ (y : Option Exception). (step w line y).world) (sym first) in
     record {
       size = ap length here;
-      told_is = ap (λ (ls : List (List ℕ)). flat_map outcome_text (outcomes w ls xs)) here ∙ append-nil (outcome_text (step w line (xs 0)))
-          ∙ ap (λ (y : Option Exception). outcome_text (step w line y)) first ∙ sym t.text;
+      told_is = ap (λ (ls : List (List ℕ)). flat_map outcome_text (outcomes w ls xs)) here ∙ text;
+      first_told = ap (λ (ls : List (List ℕ)). flat_map outcome_text (outcomes w (take 1 ls) xs)) here ∙ text;
       world = new ∙ ap (λ (ls : List (List ℕ)). world_after w ls xs) (sym here);
       first = new ∙ ap (λ (ls : List (List ℕ)). world_after w (take 1 ls) xs) (sym here);
       refused_is = t.refused_is ∙ ap (λ (y : Option Exception). is_refused (step w line y).reply) (sym first) ∙ sym (or-false (is_refused (step w line (xs 0)).reply))
@@ -198,7 +200,7 @@ leaving line before now refused changed lines xs out t none is one c b left =
     (λ early. leaves_none (tables_of before) (line ∷ []) xs out c b early.1 (holds_lines c lines (tables_of before) left.alone early.0.frames_are early.0.sound none is))
     (λ (late : HoldsFrames (c log_file) (with_line changed lines line) × (n : ℕ) × (b ≡ out ++ take n now.text)).
     let n = late.1 in
-    let part : take n now.text ≡ take n (told (tables_of before) (line ∷ []) xs) = ap (take n) (sym one.told_is) in
+    let part : take n now.text ≡ take n (told_first (tables_of before) (line ∷ []) xs 1) = ap (take n) (sym one.first_told) in
     let holds : Holds c (tables_of now) = holds_lines c (with_line changed lines line) (tables_of now) left.alone late.0.frames_are late.0.sound
     (turned_change line before now refused changed lines t none is) (turned_leave line before now refused changed lines t is) in
     record {

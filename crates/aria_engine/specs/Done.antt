@@ -4,19 +4,19 @@ use Rattle.aria_host.specs.State.{Folder, State, LeavesOnly}
 use Rattle.aria_model.specs.declared.refusal.Exception.TheVariants.{Spent}
 use Rattle.aria_model.specs.declared.refusal.Met.{Met}
 use Rattle.aria_model.specs.World.{World}
-use Rattle.aria_model.specs.Script.{Exceptions, statements, world_after, after, told, any_refused, acknowledged}
+use Rattle.aria_model.specs.Script.{Exceptions, statements, world_after, after, told, told_first, any_refused, acknowledged}
 use Rattle.aria_engine.specs.declared.store.Store.{Store}
 use Rattle.aria_engine.specs.Holds.{Holds, AreLogAlone}
 use Rattle.aria_engine.specs.Store.{tables_of, count_of, met_of, pages_of}
 
--- A crash leaves the tables after the first so many of the statements, with a part of what they tell told, in which no
--- more are acknowledged.
+-- A crash leaves the tables after the first so many of the statements. What was told by then is a part of what these
+-- statements tell, and acknowledges no more than them.
 pub record Leaves (world : World) (lines : List (List ℕ)) (exceptions : Exceptions) (out : List ℕ) (c : Folder) (b : List ℕ) : Type 0 where
   pub count : ℕ
   pub within : count ≤ length (statements lines)
   pub part : ℕ
-  pub told_is : b ≡ out ++ take part (told world lines exceptions)
-  pub acked : acknowledged (take part (told world lines exceptions)) ≤ count
+  pub told_is : b ≡ out ++ take part (told_first world lines exceptions count)
+  pub acked : acknowledged (take part (told_first world lines exceptions count)) ≤ count
   pub holds : Holds c (after world lines exceptions count)
 
 -- The lines are done: the tables are those after them, what they tell was told where the host tells, and whether a

@@ -63,6 +63,10 @@ outcome_text outcome = flat_map row_text outcome.rows ++ reply_text outcome.repl
 abbrev pub told : World → List (List ℕ) → Exceptions → List ℕ
 told world lines exceptions = flat_map outcome_text (outcomes world (statements lines) exceptions)
 
+-- what the first k statements of a script tell
+abbrev pub told_first : World → List (List ℕ) → Exceptions → ℕ → List ℕ
+told_first world lines exceptions k = flat_map outcome_text (outcomes world (take k (statements lines)) exceptions)
+
 abbrev pub is_refused : Reply → Bool
 is_refused Done = false
 is_refused (Count n) = false

@@ -24,6 +24,8 @@ use Rattle.aria_tools.proofs.Pieces.{rose_since, same_faults_more}
 pub leaves_prefix : (w : World) (lines : List (List ℕ)) (xs : Exceptions) (out : List ℕ) (c : Folder) (told_by : List ℕ) → Leaves w lines xs out c told_by → Prefix w lines xs out c told_by
 leaves_prefix w lines xs out c told_by leaves = record {
   count = leaves.count;
+  part = leaves.part;
+  told_is = leaves.told_is;
   acked = subst (λ (t : List ℕ). acknowledged t ≤ leaves.count) (sym (ap (drop (length out)) leaves.told_is ∙ drop-append_seam out _)) leaves.acked;
   holds = leaves.holds;
 }

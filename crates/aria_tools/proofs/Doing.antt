@@ -8,7 +8,7 @@ use Rattle.aria_model.specs.World.{World}
 use Rattle.std.proofs.lemmas.List.{length-take}
 use Rattle.std.proofs.lemmas.List.Elements.{All-weaker}
 use Rattle.aria_engine.specs.Holds.{Holds}
-use Rattle.aria_model.specs.Script.{Exceptions, statements, after, world_after, outcomes, told, acknowledged, is_refused, outcome_text}
+use Rattle.aria_model.specs.Script.{Exceptions, statements, after, world_after, outcomes, told, told_first, acknowledged, is_refused, outcome_text}
 use Rattle.aria_model.specs.Grammar.{read_line, is_blank_line}
 use Rattle.aria_model.specs.Step.{Outcome, answered, step}
 use Rattle.aria_model.specs.declared.statement.Statement.{Statement}
@@ -78,16 +78,35 @@ after_same w line xs n = after_one w (clipped line) xs (is_blank_line (clipped l
     ∙ ap (λ (r : Result (Option Statement) Refusal). world_part n (is_blank_line line) w (answered w r (xs 0)).world) (read_line-clipped line)
     ∙ sym (after_one w line xs (is_blank_line line) n)
 
+-- the outcomes of so many of the statements that one line is
+abbrev outcomes_part : ℕ → Bool → Outcome → List Outcome
+outcomes_part n true o = []
+outcomes_part zero false o = []
+outcomes_part (suc n) false o = o ∷ []
+
+first_one : (w : World) (line : List ℕ) (xs : Exceptions) (blank : Bool) (n : ℕ) → outcomes w (take n (cond (not blank) (line ∷ []) [])) xs ≡ outcomes_part n blank (step w line (xs 0))
+first_one w line xs true zero = refl
+first_one w line xs true (suc n) = refl
+first_one w line xs false zero = refl
+first_one w line xs false (suc zero) = refl
+first_one w line xs false (suc (suc n)) = refl
+
+first_same : (w : World) (line : List ℕ) (xs : Exceptions) (n : ℕ) → told_first w (clipped line ∷ []) xs n ≡ told_first w (line ∷ []) xs n
+first_same w line xs n = ap text_of (first_one w (clipped line) xs (is_blank_line (clipped line)) n
+    ∙ ap (λ (x : Bool). outcomes_part n x (step w (clipped line) (xs 0))) (is_blank_line-clipped line)
+    ∙ ap (λ (r : Result (Option Statement) Refusal). outcomes_part n (is_blank_line line) (answered w r (xs 0))) (read_line-clipped line)
+    ∙ sym (first_one w line xs (is_blank_line line) n))
+
 -- what a crash leaves of a clipped line, it leaves of the line
 leaves_clipped : (w : World) (line : List ℕ) (xs : Exceptions) (out : List ℕ) (c : Folder) (t : List ℕ) → Leaves w (clipped line ∷ []) xs out c t → Leaves w (line ∷ []) xs out c t
 leaves_clipped w line xs out c t leaves =
-    let outs = outcomes_same w (clipped line) line xs (is_blank_line-clipped line) (read_line-clipped line) in
+    let same = first_same w line xs leaves.count in
     record {
       count = leaves.count;
       within = subst (λ (n : ℕ). leaves.count ≤ n) (length_same line) leaves.within;
       part = leaves.part;
-      told_is = leaves.told_is ∙ ap (λ (os : List Outcome). out ++ take leaves.part (text_of os)) outs;
-      acked = subst (λ (os : List Outcome). acknowledged (take leaves.part (text_of os)) ≤ leaves.count) outs leaves.acked;
+      told_is = leaves.told_is ∙ ap (λ (t : List ℕ). out ++ take leaves.part t) same;
+      acked = subst (λ (t : List ℕ). acknowledged (take leaves.part t) ≤ leaves.count) same leaves.acked;
       holds = subst (λ (v : World). Holds c v) (after_same w line xs leaves.count) leaves.holds;
     }
 

@@ -6,7 +6,7 @@ use Rattle.aria_host.specs.Calls.{SameImages}
 use Rattle.aria_host.specs.declared.fault.Fault.{Fault}
 use Rattle.aria_host.specs.declared.fault.Fault.TheVariants as faults
 use Rattle.aria_model.specs.World.{World}
-use Rattle.aria_model.specs.Script.{Exceptions, lines_of, ended_lines, statements, world_after, after, told, any_refused, acknowledged}
+use Rattle.aria_model.specs.Script.{Exceptions, lines_of, ended_lines, statements, world_after, after, told, told_first, any_refused, acknowledged}
 use Rattle.aria_engine.specs.Holds.{Holds, IsDamage, AtRest, IsSettled}
 use Rattle.aria_engine.specs.Store.{SameFaults}
 use Rattle.aria_engine.specs.Done.{Leaves}
@@ -122,9 +122,12 @@ pub record RunsWhole (supply supply_now : Supply) (world : World) (exceptions : 
   pub answered : Answered supply supply_now world exceptions result before now
   pub moments : LeavesOnly before now (λ c b. Began before c b ⊎ Leaves world (lines_of supply.left) exceptions before.out c b)
 
--- A crash leaves the tables after the first so many of the statements, no fewer than are acknowledged in what was told since.
+-- A crash leaves the tables after the first so many of the statements. What was told since is a part of what these
+-- statements tell, and acknowledges no more than them.
 pub record Prefix (world : World) (lines : List (List ℕ)) (exceptions : Exceptions) (out : List ℕ) (c : Folder) (b : List ℕ) : Type 0 where
   pub count : ℕ
+  pub part : ℕ
+  pub told_is : b ≡ out ++ take part (told_first world lines exceptions count)
   pub acked : acknowledged (drop (length out) b) ≤ count
   pub holds : Holds c (after world lines exceptions count)
 

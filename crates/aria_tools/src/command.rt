@@ -43,7 +43,7 @@ pub fn aria<H: Host, S: Source>(
     input: &mut S,
 ) -> Ended
     // At each moment a crash leaves the tables after the first k statements, for a k not below the number of those that
-    // were acknowledged by then.
+    // were acknowledged by then, and each byte told by then is of these k statements.
     ensures any_moment { IsTrue H.tells → IsTrue S.tells → (world : World) → EachHolds (H.state host.old) world
         → LeavesOnly (H.state host.old) (H.state host.new) (Prefix world (lines_of (S.left input.old)) (met_at result.met) (H.state host.old).out) }
 
