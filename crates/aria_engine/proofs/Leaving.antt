@@ -1,32 +1,17 @@
 -- What a crash leaves of lines that are done one after another.
-use Rattle.std.proofs.Common.{◌≡◌, ℕ, ◌+◌, ◌≤◌, min, List, ◌++◌, length, take, sym, ap, subst, ◌∙◌, arith}
+use Rattle.std.proofs.Common.{◌≡◌, ℕ, ◌+◌, ◌≤◌, min, List, ◌++◌, length, take, drop, sym, ap, subst, ◌∙◌, arith}
 use Rattle.std.specs.List.{flat_map}
 use Rattle.std.proofs.lemmas.Grind.{flat_map-append}
-use Rattle.std.proofs.lemmas.List.{append-nil, append_assoc, take-append-le, take_min}
-use Rattle.std.proofs.Math.Seq.{take-append-add}
+use Rattle.std.proofs.lemmas.List.{append-nil, append_assoc, take-append-drop, take-append-le, take_min}
+use Rattle.std.proofs.Math.Seq.{take-append-add, take-length}
 use Rattle.aria_host.specs.State.{Folder}
 use Rattle.aria_model.specs.World.{World}
 use Rattle.aria_model.specs.Script.{Exceptions, statements, outcomes, outcome_text, world_after, after, told, told_first, acknowledged}
-use Rattle.aria_model.proofs.Scripts.{from_nth, statements-append, outcomes-append, told-append, world_after-append}
+use Rattle.aria_model.proofs.Scripts.{from_nth, statements-append, outcomes-append, world_after-append}
 use Rattle.aria_model.proofs.Acknowledged.{acknowledged-append, told_ends}
 use Rattle.aria_engine.specs.Holds.{Holds}
 use Rattle.aria_engine.specs.Done.{Leaves}
 use Rattle.aria_engine.proofs.Tallying.{length-statements}
-
--- a part of what lines tell is a part of what they and others tell
-pub told_front : (w : World) (a b : List (List ℕ)) (xs : Exceptions) (n : ℕ) → take n (told w a xs) ≡ take (min n (length (told w a xs))) (told w (a ++ b) xs)
-told_front w a b xs n =
-    let all = told w a xs in
-    let low : min n (length all) ≤ length all = omega arith in
-    sym (take_min n all) ∙ sym (take-append-le (min n (length all)) all _ low) ∙ ap (take (min n (length all))) (sym (told-append w a b xs))
-
--- and behind all that lines tell comes a part of what the others tell
-pub told_behind : (w w1 : World) (a b : List (List ℕ)) (xs : Exceptions) (n : ℕ) → w1 ≡ world_after w (statements a) xs
-    → told w a xs ++ take n (told w1 b (from_nth xs (length (statements a)))) ≡ take (length (told w a xs) + n) (told w (a ++ b) xs)
-told_behind w w1 a b xs n is =
-    ap (λ (v : World). told w a xs ++ take n (told v b (from_nth xs (length (statements a))))) is
-    ∙ sym (take-append-add (told w a xs) (told (world_after w (statements a) xs) b (from_nth xs (length (statements a)))) n)
-    ∙ ap (take (length (told w a xs) + n)) (sym (told-append w a b xs))
 
 -- what the first statements tell is the same with others behind them
 pub first_front : (w : World) (a b : List (List ℕ)) (xs : Exceptions) (n : ℕ) → n ≤ length (statements a) → told_first w a xs n ≡ told_first w (a ++ b) xs n
@@ -42,6 +27,28 @@ first_behind w w1 a b xs n is =
     ∙ sym (flat_map-append outcome_text (outcomes w (statements a) xs) (outcomes (world_after w (statements a) xs) (take n (statements b)) later))
     ∙ ap (flat_map outcome_text) (sym (outcomes-append w (statements a) (take n (statements b)) xs))
     ∙ ap (λ (ls : List (List ℕ)). flat_map outcome_text (outcomes w ls xs)) (sym (take-append-add (statements a) (statements b) n) ∙ ap (take (length (statements a) + n)) (sym (statements-append a b)))
+
+-- a part of it, behind all that lines tell
+pub part_behind : (w w1 : World) (a b : List (List ℕ)) (xs : Exceptions) (k n : ℕ) → w1 ≡ world_after w (statements a) xs
+    → told w a xs ++ take n (told_first w1 b (from_nth xs (length (statements a))) k) ≡ take (length (told w a xs) + n) (told_first w (a ++ b) xs (length (statements a) + k))
+part_behind w w1 a b xs k n is =
+    sym (take-append-add (told w a xs) (told_first w1 b (from_nth xs (length (statements a))) k) n) ∙ ap (take (length (told w a xs) + n)) (first_behind w w1 a b xs k is)
+
+-- what all statements tell is what the lines tell
+pub first_all : (w : World) (a : List (List ℕ)) (xs : Exceptions) → told_first w a xs (length (statements a)) ≡ told w a xs
+first_all w a xs = ap (λ (ls : List (List ℕ)). flat_map outcome_text (outcomes w ls xs)) (take-length (statements a))
+
+-- a part of what the first statements tell is a part of what all tell
+pub part_of_first : (w : World) (a : List (List ℕ)) (xs : Exceptions) (k n : ℕ) → (m : ℕ) × (take n (told_first w a xs k) ≡ take m (told w a xs))
+part_of_first w a xs k n =
+    let first = told_first w a xs k in
+    let behind = flat_map outcome_text (outcomes (world_after w (take k (statements a)) xs) (drop k (statements a)) (from_nth xs (length (take k (statements a))))) in
+    let all : told w a xs ≡ first ++ behind =
+    ap (λ (ls : List (List ℕ)). flat_map outcome_text (outcomes w ls xs)) (sym (take-append-drop k (statements a)))
+    ∙ ap (flat_map outcome_text) (outcomes-append w (take k (statements a)) (drop k (statements a)) xs)
+    ∙ flat_map-append outcome_text (outcomes w (take k (statements a)) xs) (outcomes (world_after w (take k (statements a)) xs) (drop k (statements a)) (from_nth xs (length (take k (statements a))))) in
+    let low : min n (length first) ≤ length first = omega arith in
+    (min n (length first), sym (take_min n first) ∙ sym (take-append-le (min n (length first)) first behind low) ∙ ap (take (min n (length first))) (sym all))
 
 after_front : (w : World) (a b : List (List ℕ)) (xs : Exceptions) (n : ℕ) → n ≤ length (statements a) → after w a xs n ≡ after w (a ++ b) xs n
 after_front w a b xs n low =
@@ -74,8 +81,7 @@ pub leaves_behind : (w w1 : World) (a b : List (List ℕ)) (xs : Exceptions) (ou
 leaves_behind w w1 a b xs out out1 c told_by world_is out_is acked leaves =
     let later = from_nth xs (length (statements a)) in
     let part = take leaves.part (told_first w1 b later leaves.count) in
-    let same : told w a xs ++ part ≡ take (length (told w a xs) + leaves.part) (told_first w (a ++ b) xs (length (statements a) + leaves.count)) =
-    sym (take-append-add (told w a xs) (told_first w1 b later leaves.count) leaves.part) ∙ ap (take (length (told w a xs) + leaves.part)) (first_behind w w1 a b xs leaves.count world_is) in
+    let same = part_behind w w1 a b xs leaves.count leaves.part world_is in
     let sum : acknowledged (told w a xs ++ part) ≡ acknowledged (told w a xs) + acknowledged part = acknowledged-append (told w a xs) part (told_ends w a xs) in
     let few : acknowledged (told w a xs ++ part) ≤ length (statements a) + leaves.count = omega (arith, sum, acked, leaves.acked) in
     record {

@@ -1,5 +1,6 @@
 pub mod Running
 pub mod Tallying
+pub mod Meeting
 pub mod Leaving
 pub mod Doing
 pub mod Tallies

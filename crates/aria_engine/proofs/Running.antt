@@ -1,5 +1,5 @@
 -- What the images of a store that runs hold.
-use Rattle.std.proofs.Common.{◌≡◌, ⊎_elim, ℕ, ◌+◌, false, true, Bool, Option, None, Some, unwrap_or, List, [], ◌∷◌, ◌++◌, length, take, drop, refl, sym, ap, subst, ◌∙◌, arith}
+use Rattle.std.proofs.Common.{◌≡◌, ⊎_elim, ℕ, ◌+◌, ◌==◌, cond, add-zero, false, true, Bool, Option, None, Some, unwrap_or, List, [], ◌∷◌, ◌++◌, length, take, drop, refl, sym, ap, subst, ◌∙◌, arith}
 use Rattle.std.specs.List.{flat_map}
 use Rattle.std.proofs.lemmas.List.{append-nil, length-append}
 use Rattle.std.proofs.Math.Seq.{take-length, drop-length}
@@ -17,7 +17,7 @@ use Rattle.aria_model.specs.Script.{no_exception, world_after}
 use Rattle.aria_model.specs.Journal.{first_no_change}
 use Rattle.aria_engine.specs.declared.store.Store.{Store}
 use Rattle.aria_engine.specs.Holds.{Holds, IsLogAlone, AreLogAlone, AtRest, IsSettled}
-use Rattle.aria_engine.specs.Store.{tables_of, IsRunning}
+use Rattle.aria_engine.specs.Store.{tables_of, pages_of, IsRunning}
 
 -- a folder holds the tables that the lines of its log leave
 pub holds_lines : (c : Folder) (lines : List (List ℕ)) (world : World) → IsLogAlone c → log_of c ≡ lines → damaged_at (log_pages c) ≡ None
@@ -103,3 +103,16 @@ running_settled store s running =
     let forced = running_forced store s running in
     let pages : log_pages s.folder ≡ forced.base = ap (λ (o : Option (List (List ℕ))). unwrap_or o []) forced.folder in
     ap end_of pages ∙ forced.whole ∙ ap length (sym pages)
+
+-- and the log has its pages
+pub running_pages : (store : Store) (s : State) → IsRunning store s → pages_of store ≡ length (log_pages s.folder)
+running_pages store s running =
+    let log = running.log in
+    let forced = running_forced store s running in
+    let before : log.at.before ≡ [] = none_in_front log.at.before log.at.held (log.at.text_is ∙ forced_all running.lines) in
+    let held : log.at.held ≡ [] = ap (λ (l : List ℕ). l ++ log.at.held) (sym before) ∙ log.at.text_is ∙ forced_all running.lines in
+    let written : log.at.written ≡ [] = no_pages (length log.base) true log.at.written log.at.before before log.at.writing.run in
+    let used : store.log.used ≡ 0 = log.at.fills.used_is ∙ ap length held in
+    let number : store.log.number ≡ length log.base = log.at.fills.number_is ∙ ap (λ (l : List (List ℕ)). length log.base + length l) written ∙ add-zero (length log.base) in
+    let pages : log_pages s.folder ≡ log.base = ap (λ (o : Option (List (List ℕ))). unwrap_or o []) (log.at.writing.folder ∙ ap (λ (l : List (List ℕ)). Some (log.base ++ l)) written ∙ ap Some (append-nil log.base)) in
+    ap (λ (n : ℕ). store.log.number + cond (n == 0) 0 1) used ∙ add-zero store.log.number ∙ number ∙ ap length (sym pages)

@@ -206,6 +206,28 @@ recovered_pages before now folder is same =
     by : (number used end pages : ℕ) → 8176 * number + used ≡ 8176 * end → end ≤ pages → number + page_of (used == 0) ≤ pages
     by number used end pages is within = over number used end pages (used == 0) refl is within
 
+-- a log that is started has the pages up to its end
+pub recovered_ends : (before now : LogValue) (folder : Folder) → IsOpened before folder → place now ≡ place before → file_pages now ≡ end_of (log_pages folder)
+recovered_ends before now folder is same =
+    let end : before.number ≡ end_of (log_pages folder) = is.fills.number_is in
+    let used : before.used ≡ 0 = is.fills.used_is in
+    by now.number now.used (end_of (log_pages folder)) now.within (omega (arith, same, end, used)) (now.used == 0) refl
+  where
+    by : (number used end : ℕ) → used ≤ 8176 → 8176 * number + used ≡ 8176 * end → (none : Bool) → (used == 0) ≡ none → number + page_of (used == 0) ≡ end
+    by number used end within is true none =
+        let zero' : used ≡ 0 = eqb-true used 0 none in
+        let whole : number + 0 ≡ end = omega (arith, is, zero') in
+        ap (λ (b : Bool). number + page_of b) none ∙ whole
+    by number used end within is false some =
+        let pos : 1 ≤ used = grind (arith, nat_tests) in
+        let more : number + 1 ≡ end = omega (arith, is, within, pos) in
+        ap (λ (b : Bool). number + page_of b) some ∙ more
+
+-- the log's pages were as they are
+pub same_ends : (old new : Folder) → SameLog old new → end_of (log_pages new) ≡ end_of (log_pages old)
+same_ends old new (inl same) = ap (λ (f : Folder). end_of (log_pages f)) same
+same_ends old new (inr none) = ap end_of (none.1 ∙ sym none.0)
+
 -- nothing is damaged in a log of no pages
 empty_sound : damaged_at [] ≡ None
 unfolding damaged_at end_of front begins_behind

@@ -12,7 +12,9 @@ use Rattle.aria_model.specs.declared.reply.Reply.{Reply}
 use Rattle.aria_model.specs.declared.reply.Reply.TheVariants.{No}
 use Rattle.aria_model.specs.declared.statement.Statement.{Statement}
 use Rattle.aria_model.specs.Token.{is_blank, tokens}
-use Rattle.aria_model.specs.Grammar.{read_line, is_blank_line, statement, ◌>>=◌}
+use Rattle.aria_model.specs.Grammar.{Tokens, read_line, is_blank_line, statement, ◌>>=◌}
+use Rattle.aria_model.specs.Spelling.{Answers, spells, no_definition, first_bad, too_wide}
+use Rattle.aria_model.specs.World.{World}
 use Rattle.aria_model.specs.Step.{Outcome, answered, step, perform}
 use Rattle.aria_model.specs.Script.{is_refused, outcome_text, acknowledged}
 use Rattle.aria_model.specs.Journal.{changes, changes_read}
@@ -21,12 +23,14 @@ use Rattle.aria_memory.specs.Performs.{Performs}
 use Rattle.aria_memory.proofs.Kept.{no_plain}
 use Rattle.aria_engine.specs.declared.store.Store.{Store}
 use Rattle.aria_engine.specs.declared.tally.Tally.{Tally}
+use Rattle.aria_engine.specs.Entries.{is_spent, is_log_spent, due}
 use Rattle.aria_engine.specs.Store.{tables_of, pages_of}
-use Rattle.aria_engine.specs.Turns.{exception_of, spent_of, Notes, MayNote, Turned, Passed}
+use Rattle.aria_engine.specs.Turns.{exception_of, spent_of, Notes, Turned, Passed}
 use Rattle.aria_model.proofs.Acknowledged.{statement_counts}
+use Rattle.aria_model.proofs.Answering.{statement_answers}
 use Rattle.aria_model.proofs.Journal.{spelled_length}
 use Rattle.aria_model.proofs.Kept.{changes-refused, changes-accepted}
-use Rattle.aria_engine.proofs.Spending.{met_free, met_full, accepted_free, changes_room}
+use Rattle.aria_engine.proofs.Spending.{met_free, met_due, never_due, none_due, accepted_free, changes_room}
 
 -- what is read of a line that is short enough or not, of blanks alone or not, and spells a statement or none
 abbrev reading : Bool → Bool → Result Statement Refusal → Result (Option Statement) Refusal
@@ -60,6 +64,42 @@ refused_line : (line : List ℕ) (why : Refusal) → read_line line ≡ Err why 
 unfolding read_line
 refused_line line why h = refused_reading (nat_le (length line) 1048576) (list_all is_blank line) (statement (tokens line)) why h
 
+blank_reads : (short blank : Bool) (spelled : Result Statement Refusal) → (short && blank) ≡ true → reading short blank spelled ≡ Ok None
+blank_reads true true spelled h = refl
+blank_reads true false spelled h = cc
+blank_reads false blank spelled h = cc
+
+line_blank : (line : List ℕ) → is_blank_line line ≡ true → read_line line ≡ Ok None
+unfolding read_line
+line_blank line h = blank_reads (nat_le (length line) 1048576) (list_all is_blank line) (statement (tokens line)) h
+
+-- a blank line meets no exception
+pub blank_due : (w : World) (line : List ℕ) (pages : ℕ) → is_blank_line line ≡ true → due pages w line ≡ None
+blank_due w line pages blank =
+    ap (λ (b : Bool). cond (nat_le 524000 pages && b) (Some (Spent 1)) None) (ap (λ (r : Result (Option Statement) Refusal). is_log_spent (answered w r (Some (Spent 1))).reply) (line_blank line blank))
+    ∙ never_due (nat_le 524000 pages)
+
+-- the refusal of a line that spells no statement isn't that the log is spent
+abbrev IsUnspent : Result Statement Refusal → Type 0
+IsUnspent (Ok s) = Unit {0}
+IsUnspent (Err why) = is_spent why ≡ false
+
+answers_unspent : {ts : Tokens} {r : Result Statement Refusal} → Answers ts r → IsUnspent r
+answers_unspent (spells s) = tt
+answers_unspent (no_definition s) = refl
+answers_unspent (first_bad b) = refl
+answers_unspent (too_wide w) = refl
+
+unspent_reading : (short blank : Bool) (spelled : Result Statement Refusal) (why : Refusal) → IsUnspent spelled → reading short blank spelled ≡ Err why → is_spent why ≡ false
+unspent_reading true true spelled why unspent h = cc
+unspent_reading true false (Ok s) why unspent h = cc
+unspent_reading true false (Err other) why unspent h = let same : other ≡ why = cc in ap is_spent (sym same) ∙ unspent
+unspent_reading false blank spelled why unspent h = let same : LineTooLong ≡ why = cc in ap is_spent (sym same)
+
+refused_unspent : (line : List ℕ) (why : Refusal) → read_line line ≡ Err why → is_spent why ≡ false
+unfolding read_line
+refused_unspent line why h = unspent_reading (nat_le (length line) 1048576) (list_all is_blank line) (statement (tokens line)) why (answers_unspent (statement_answers line)) h
+
 -- a blank line is passed
 pub passed : (line : List ℕ) (before now : Store) → read_line line ≡ Ok None → now.log ≡ before.log → now.tally ≡ before.tally → tables_of now ≡ tables_of before → Passed line before now
 passed line before now read log tally world = record { blank = blank_line line read; log = log; tally = tally; world = world }
@@ -88,8 +128,8 @@ turned line s before now rows reply refused changed read performs still log note
       some = statement_line line s read;
       log = log;
       exception = x;
+      is_due = met_due w s line (pages_of before) reply read performs.reply;
       notes = notes;
-      full = met_full (pages_of before) reply;
       world = performs.world ∙ ap (λ (o : Outcome). o.world) same ∙ ap (λ (o : Outcome). o.world) (sym steps);
       text = text ∙ ap (λ (r : Reply). flat_map row_text (perform w s x).rows ++ reply_text r) reply_is ∙ ap outcome_text (sym steps);
       refused_is = refused_is ∙ ap is_refused reply_is ∙ ap (λ (o : Outcome). is_refused o.reply) (sym steps);
@@ -119,8 +159,8 @@ turned_refused line why before now read world log notes text_is one =
       some = refused_line line why read;
       log = log;
       exception = None;
+      is_due = sym (none_due w line why (pages_of before) read (refused_unspent line why read));
       notes = notes;
-      full = search rules;
       world = world ∙ ap (λ (o : Outcome). o.world) (sym steps);
       text = text_is ∙ ap outcome_text (sym steps);
       refused_is = ap (λ (o : Outcome). is_refused o.reply) (sym steps);
@@ -132,6 +172,3 @@ turned_refused line why before now read world log notes text_is one =
       room = λ h. absurd (cc);
     }
 
--- a statement was counted or not, and no exception noted
-pub may_note_none : (pages : ℕ) (before now : Tally) → before.count ≤ now.count → now.met ≡ before.met → MayNote pages before now
-may_note_none pages before now later met = record { later = later; exception = None; met = met ∙ sym (append-nil before.met); full = search rules }

@@ -1,9 +1,10 @@
 -- What a line that was executed does to a store, to what is told, and to what a crash may leave.
-use Rattle.std.proofs.Common.{◌≡◌, ⊎_elim, ℕ, ◌+◌, ◌-◌, ◌/◌, ◌<◌, ◌≤◌, Bool, true, false, IsTrue, ◌&&◌, cond, nat_lt, Option, Some, None, List, [], ◌∷◌, ◌++◌, length, take, refl, sym, ◌∙◌, ap, subst, arith, add-zero}
+use Rattle.std.proofs.Common.{◌≡◌, inl, inr, ⊎_elim, ℕ, ◌+◌, ◌/◌, ◌<◌, ◌≤◌, Bool, true, false, IsTrue, ◌&&◌, cond, nat_lt, Option, Some, None, List, [], ◌∷◌, ◌++◌, length, take, refl, sym, ◌∙◌, ap, subst, arith, add-zero}
 use Rattle.std.specs.Prelude.{not, All, Result, Ok, Err, OnErr}
 use Rattle.std.specs.List.{list_all, list_any, flat_map}
 use Rattle.std.proofs.lemmas.List.{append-nil}
 use Rattle.std.proofs.lemmas.List.Elements.{All-nil, All-cons}
+use Rattle.std.proofs.lemmas.Bool.{cases_Bool}
 use Rattle.std.proofs.lemmas.Bool.Decides.{nat_tests}
 use Rattle.std.proofs.Math.Bool.{or-false}
 use Rattle.std.proofs.Math.Seq.{take-length}
@@ -14,6 +15,7 @@ use Rattle.aria_journal.specs.Log.{log_file, IsLog}
 use Rattle.aria_model.specs.declared.refusal.Exception.{Exception}
 use Rattle.aria_model.specs.declared.refusal.Met.{Met}
 use Rattle.aria_model.specs.World.{World, empty_world}
+use Rattle.aria_model.specs.Grammar.{is_blank_line}
 use Rattle.aria_model.specs.Step.{Outcome, step}
 use Rattle.aria_model.specs.Script.{Exceptions, no_exception, statements, outcomes, world_after, after, told, told_first, any_refused, acknowledged, is_refused, outcome_text}
 use Rattle.aria_model.specs.Journal.{is_change, first_no_change, met_at}
@@ -21,13 +23,15 @@ use Rattle.aria_model.proofs.Scripts.{world_after-append}
 use Rattle.aria_model.proofs.Journal.{first_no_change-push, met_at-last, met_at-other, met_at-past}
 use Rattle.aria_engine.specs.declared.store.Store.{Store}
 use Rattle.aria_engine.specs.declared.tally.Tally.{Tally}
-use Rattle.aria_engine.specs.Entries.{entry}
+use Rattle.aria_engine.specs.Entries.{due, entry, Meets, MeetsFirst}
 use Rattle.aria_engine.specs.Holds.{Holds}
 use Rattle.aria_engine.specs.Store.{tables_of, count_of, met_of, pages_of, IsRunning}
-use Rattle.aria_engine.specs.Done.{Leaves, AreMet, growth, IsFull, Counts, Does, DoesPart}
-use Rattle.aria_engine.specs.Turns.{IsSpentLog, Notes, MayNote, Turned, Passed, with_line, file_pages, LeavesLines, Completes}
+use Rattle.aria_engine.specs.Done.{Leaves, AreMet, Counts, DonePart, Does, DoesPart}
+use Rattle.aria_engine.specs.Turns.{Notes, MayNote, Turned, Passed, with_line, file_pages, LeavesLines, Completes}
 use Rattle.aria_engine.proofs.Running.{holds_lines}
 use Rattle.aria_engine.proofs.Tallying.{counts_same}
+use Rattle.aria_engine.proofs.Meeting.{meets_one, meets_all, meets_no_first}
+use Rattle.aria_engine.proofs.Stepping.{blank_due}
 use Rattle.aria_engine.proofs.Leaving.{leaves_none}
 use Rattle.aria_engine.proofs.Doing.{HoldsNow}
 
@@ -57,38 +61,73 @@ entry_before : (count k : ℕ) (mets : List Met) (x : Option Exception) → k < 
 entry_before count k mets None low = ap (λ (ms : List Met). met_at ms k) (append-nil mets)
 entry_before count k mets (Some why) low = met_at-other mets (record { nth = count; why = why }) k (λ (e : count ≡ k). omega arith)
 
-full_entry : (lines : List (List ℕ)) (count pages : ℕ) (x : Option Exception) → IsSpentLog pages x → All (IsFull lines count pages) (entry count x)
-full_entry lines count pages None full = All-nil (IsFull lines count pages)
-full_entry lines count pages (Some why) full =
-    let none : count - count ≡ 0 = omega arith in
-    let enough : 524000 ≤ pages + growth (take 0 (statements lines)) = omega (arith, full.1) in
-    let met : Met = record { nth = count; why = why } in
-    All-cons (IsFull lines count pages) met [] (record {
-      why = full.0;
-      since_then = omega arith;
-      pages_are = subst (λ (k : ℕ). 524000 ≤ pages + growth (take k (statements lines))) (sym none) enough;
-    }) (All-nil (IsFull lines count pages))
+-- a statement was counted, and its exception noted
+counts_noted : (before now : Store) (x : Option Exception) → Notes before.tally now.tally x → Counts before now
+counts_noted before now x notes = record {
+  later = omega (arith, notes.count);
+  kept = λ k low. ap (λ (ms : List Met). met_at ms k) notes.met ∙ entry_before (count_of before) k before.tally.met x low;
+  added = entry (count_of before) x;
+  met_is = notes.met;
+}
 
--- a statement was counted or not, and its exception noted or not
-pub counts_noted : (lines : List (List ℕ)) (before now : Store) → MayNote (pages_of before) before.tally now.tally → Counts lines before now
-counts_noted lines before now noted = record {
-  later = noted.later;
-  kept = λ k low. ap (λ (ms : List Met). met_at ms k) noted.met ∙ entry_before (count_of before) k before.tally.met noted.exception low;
-  added = entry (count_of before) noted.exception;
-  met_is = noted.met;
-  full = full_entry lines (count_of before) (pages_of before) noted.exception noted.full;
+-- nothing was noted, and a statement was counted or not
+counts_kept : (before now : Store) → count_of before ≤ count_of now → now.tally.met ≡ before.tally.met → Counts before now
+counts_kept before now later met = record {
+  later = later;
+  kept = λ k low. ap (λ (ms : List Met). met_at ms k) met;
+  added = [];
+  met_is = met ∙ sym (append-nil before.tally.met);
 }
 
 -- nothing was told, and the folder is as it was
-pub does_noted : (tells : Bool) (lines : List (List ℕ)) (before now : Store) (s : State) → MayNote (pages_of before) before.tally now.tally → HoldsNow tells before s → DoesPart tells lines before now s s
-does_noted tells lines before now s noted here = record {
-  counts = counts_noted lines before now noted;
-  all = λ xs met. record {
-    out = λ h. (0, sym (append-nil s.out));
-    err = λ h. refl;
-    moments = λ h was. started s (Leaves (tables_of before) lines xs s.out) (λ c t since. let is = here h was c t since in leaves_none (tables_of before) lines xs s.out c t is.0 is.1);
-  };
+silent : (tells : Bool) (xs : Exceptions) (lines : List (List ℕ)) (answered : ℕ) (before : Store) (s : State) → HoldsNow tells before s → DonePart tells xs lines answered (tables_of before) s s
+silent tells xs lines answered before s here = record {
+  out = λ h. (0, sym (append-nil s.out));
+  err = λ h. refl;
+  moments = λ h was. started s (Leaves (tables_of before) lines xs s.out) (λ c t since. let is = here h was c t since in leaves_none (tables_of before) lines xs s.out c t is.0 is.1);
 }
+
+-- the one statement that a line is, and its exception
+meets_line : (line : List ℕ) (before : Store) (x : Option Exception) (last : ℕ) (left : World) → is_blank_line line ≡ false → x ≡ due (pages_of before) (tables_of before) line
+    → pages_of before ≤ last → last ≤ pages_of before + (length line / 8176 + 2) → left ≡ (step (tables_of before) line x).world
+    → Meets (count_of before) (pages_of before) (tables_of before) (statements (line ∷ [])) (entry (count_of before) x) last left
+meets_line line before x last left some is rises within left_is =
+    let here : statements (line ∷ []) ≡ line ∷ [] = ap (λ (b : Bool). cond (not b) (line ∷ []) []) some in
+    subst (λ (ls : List (List ℕ)). Meets (count_of before) (pages_of before) (tables_of before) ls (entry (count_of before) x) last left) (sym here)
+    (meets_one (count_of before) (pages_of before) (tables_of before) line x last left is rises within left_is)
+
+meets_first_line : (line : List ℕ) (before : Store) (x : Option Exception) → is_blank_line line ≡ false → x ≡ due (pages_of before) (tables_of before) line
+    → MeetsFirst (count_of before) (pages_of before) (tables_of before) (statements (line ∷ [])) 1 (entry (count_of before) x)
+meets_first_line line before x some is =
+    let size : length (statements (line ∷ [])) ≡ 1 = ap (λ (b : Bool). length (cond (not b) (line ∷ []) [])) some in
+    subst (λ (n : ℕ). MeetsFirst (count_of before) (pages_of before) (tables_of before) (statements (line ∷ [])) n (entry (count_of before) x)) size
+    (meets_all (count_of before) (pages_of before) (tables_of before) (statements (line ∷ [])) (entry (count_of before) x) (pages_of before) (step (tables_of before) line x).world
+    (meets_line line before x (pages_of before) (step (tables_of before) line x).world some is (omega arith) (omega arith) refl))
+
+-- A statement was counted, its exception noted or not, and nothing was told.
+pub does_noted : (tells : Bool) (line : List ℕ) (before now : Store) (s : State) → MayNote before.tally now.tally (due (pages_of before) (tables_of before) line) → HoldsNow tells before s
+    → DoesPart tells (line ∷ []) before now s s
+does_noted tells line before now s noted here =
+    ⊎_elim unnoted (λ (notes : Notes before.tally now.tally x). elim (cases_Bool (is_blank_line line)) [
+      | inl blank ↦ unnoted (notes.met ∙ ap (λ (y : Option Exception). before.tally.met ++ entry (count_of before) y) (blank_due (tables_of before) line (pages_of before) blank) ∙ append-nil before.tally.met)
+      | inr some ↦ record {
+          counts = counts_noted before now x notes;
+          answered = 1;
+          meets = meets_first_line line before x some refl;
+          all = λ xs met. silent tells xs (line ∷ []) 1 before s here;
+        }
+    ]) noted.noted
+  where
+    x : Option Exception
+    x = due (pages_of before) (tables_of before) line
+
+    unnoted : now.tally.met ≡ before.tally.met → DoesPart tells (line ∷ []) before now s s
+    unnoted met = record {
+      counts = counts_kept before now noted.later met;
+      answered = 0;
+      meets = meets_no_first (count_of before) (pages_of before) (tables_of before) (statements (line ∷ []));
+      all = λ xs met. silent tells xs (line ∷ []) 0 before s here;
+    }
 
 -- ---- a blank line
 
@@ -99,9 +138,9 @@ does_blank tells line before now s passed here =
     let pages : pages_of now ≡ pages_of before = ap file_pages passed.log in
     let size : length (statements (line ∷ [])) ≡ 0 = ap length none in
     record {
-      counts = counts_same (line ∷ []) before now passed.tally;
+      counts = counts_same before now passed.tally;
       count = omega (arith, count, size);
-      pages = omega (arith, pages);
+      meets = subst (λ (ls : List (List ℕ)). Meets (count_of before) (pages_of before) (tables_of before) ls [] (pages_of now) (tables_of now)) (sym none) (refl, pages, passed.world);
       all = λ xs met.
           let w = tables_of before in
           let nothing : told w (line ∷ []) xs ≡ [] = ap (λ (ls : List (List ℕ)). flat_map outcome_text (outcomes w ls xs)) none in
@@ -215,20 +254,19 @@ leaving line before now refused changed lines xs out t none is one c b left =
 
 -- the line was done
 pub does_turned : (tells : Bool) (line : List ℕ) (before now final : Store) (refused changed : Bool) (s0 s1 : State) → Turned line before now refused changed
-    → final.tally ≡ now.tally → tables_of final ≡ tables_of now → file_pages final.log ≤ file_pages now.log + (length line / 8176 + 2)
+    → final.tally ≡ now.tally → tables_of final ≡ tables_of now → file_pages now.log ≤ file_pages final.log → file_pages final.log ≤ file_pages now.log + (length line / 8176 + 2)
     → (running : IsTrue tells → IsRunning before s0)
     → ((h : IsTrue tells) → Completes (running h).lines (with_line changed (running h).lines line) now.text final.log s0 s1 true)
     → Does tells (line ∷ []) before final false refused s0 s1
-does_turned tells line before now final refused changed s0 s1 t same tables pages running completes =
+does_turned tells line before now final refused changed s0 s1 t same tables rises pages running completes =
     let here : statements (line ∷ []) ≡ line ∷ [] = ap (λ (b : Bool). cond (not b) (line ∷ []) []) t.some in
     let size : length (statements (line ∷ [])) ≡ 1 = ap length here in
-    let grown : growth (statements (line ∷ [])) ≡ (length line / 8176 + 2) + 0 = ap growth here in
     let count : count_of final ≡ count_of before + 1 = ap (λ (y : Tally). y.count) same ∙ t.notes.count in
-    let was : file_pages now.log ≡ file_pages before.log = ap file_pages t.log in
+    let was : file_pages now.log ≡ pages_of before = ap file_pages t.log in
     record {
-      counts = counts_noted (line ∷ []) before final (record { later = omega (arith, count); exception = t.exception; met = ap (λ (y : Tally). y.met) same ∙ t.notes.met; full = t.full });
+      counts = counts_noted before final t.exception (record { count = count; met = ap (λ (y : Tally). y.met) same ∙ t.notes.met });
       count = omega (arith, count, size);
-      pages = omega (arith, pages, was, grown);
+      meets = meets_line line before t.exception (pages_of final) (tables_of final) t.some t.is_due (omega (arith, rises, was)) (omega (arith, pages, was)) (tables ∙ t.world);
       all = λ xs met.
           let one = one_of line before now final refused changed xs t same met in
           let w = tables_of before in
@@ -254,12 +292,14 @@ pub does_part_turned : (tells : Bool) (line : List ℕ) (before now final : Stor
 does_part_turned tells line before now final refused changed s0 s1 t same running completes =
     let count : count_of final ≡ count_of before + 1 = ap (λ (y : Tally). y.count) same ∙ t.notes.count in
     record {
-      counts = counts_noted (line ∷ []) before final (record { later = omega (arith, count); exception = t.exception; met = ap (λ (y : Tally). y.met) same ∙ t.notes.met; full = t.full });
+      counts = counts_noted before final t.exception (record { count = count; met = ap (λ (y : Tally). y.met) same ∙ t.notes.met });
+      answered = 1;
+      meets = meets_first_line line before t.exception t.some t.is_due;
       all = λ xs met.
           let one = one_of line before now final refused changed xs t same met in
           let w = tables_of before in
           record {
-            out = λ h. let part = (completes h).part in (part.0, part.1 ∙ ap (λ (p : List ℕ). s0.out ++ take part.0 p) (sym one.told_is));
+            out = λ h. let part = (completes h).part in (part.0, part.1 ∙ ap (λ (p : List ℕ). s0.out ++ take part.0 p) (sym one.first_told));
             err = λ h. (completes h).err;
             moments = λ h alone. weakened s0 s1 (LeavesLines (running h).lines (with_line changed (running h).lines line) s0.out now.text) (Leaves w (line ∷ []) xs s0.out)
                 ((completes h).moments alone) (leaving line before now refused changed (running h).lines xs s0.out t (running h).changes (running h).tables one);

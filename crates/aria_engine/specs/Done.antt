@@ -6,6 +6,7 @@ use Rattle.aria_model.specs.declared.refusal.Met.{Met}
 use Rattle.aria_model.specs.World.{World}
 use Rattle.aria_model.specs.Script.{Exceptions, statements, world_after, after, told, told_first, any_refused, acknowledged}
 use Rattle.aria_engine.specs.declared.store.Store.{Store}
+use Rattle.aria_engine.specs.Entries.{most_added, Meets, MeetsFirst}
 use Rattle.aria_engine.specs.Holds.{Holds, AreLogAlone}
 use Rattle.aria_engine.specs.Store.{tables_of, count_of, met_of, pages_of}
 
@@ -30,9 +31,9 @@ pub record Done (tells : Bool) (exceptions : Exceptions) (lines : List (List ℕ
   pub alone : IsTrue tells → AreLogAlone s0 → AreLogAlone s1
   pub moments : IsTrue tells → AreLogAlone s0 → LeavesOnly s0 s1 (Leaves old lines exceptions s0.out)
 
--- A part of what the lines tell was told.
-pub record DonePart (tells : Bool) (exceptions : Exceptions) (lines : List (List ℕ)) (old : World) (s0 s1 : State) : Type 0 where
-  pub out : IsTrue tells → (n : ℕ) × (s1.out ≡ s0.out ++ take n (told old lines exceptions))
+-- A part of what the first so many of the lines' statements tell was told.
+pub record DonePart (tells : Bool) (exceptions : Exceptions) (lines : List (List ℕ)) (answered : ℕ) (old : World) (s0 s1 : State) : Type 0 where
+  pub out : IsTrue tells → (n : ℕ) × (s1.out ≡ s0.out ++ take n (told_first old lines exceptions answered))
   pub err : IsTrue tells → s1.err ≡ s0.err
   pub moments : IsTrue tells → AreLogAlone s0 → LeavesOnly s0 s1 (Leaves old lines exceptions s0.out)
 
@@ -43,7 +44,7 @@ AreMet exceptions since now = (k : ℕ) → since + k < count_of now → excepti
 -- the most pages that statements add to the log
 abbrev pub growth : List (List ℕ) → ℕ
 growth [] = 0
-growth (line ∷ lines) = (length line / 8176 + 2) + growth lines
+growth (line ∷ lines) = most_added line + growth lines
 
 -- A statement met that the log's file had its most pages, which the statements before it can have added.
 pub record IsFull (lines : List (List ℕ)) (since pages : ℕ) (met : Met) : Type 0 where
@@ -52,21 +53,22 @@ pub record IsFull (lines : List (List ℕ)) (since pages : ℕ) (met : Met) : Ty
   pub pages_are : 524000 ≤ pages + growth (take (met.nth - since) (statements lines))
 
 -- More statements were counted, and no exception that was met is forgotten.
-pub record Counts (lines : List (List ℕ)) (before now : Store) : Type 0 where
+pub record Counts (before now : Store) : Type 0 where
   pub later : count_of before ≤ count_of now
   pub kept : (k : ℕ) → k < count_of before → met_of now k ≡ met_of before k
   pub added : List Met
   pub met_is : now.tally.met ≡ before.tally.met ++ added
-  pub full : All (IsFull lines (count_of before) (pages_of before)) added
 
 -- The store has done the lines.
 pub record Does (tells : Bool) (lines : List (List ℕ)) (before now : Store) (was is : Bool) (s0 s1 : State) : Type 0 where
-  pub counts : Counts lines before now
+  pub counts : Counts before now
   pub count : count_of now ≡ count_of before + length (statements lines)
-  pub pages : pages_of now ≤ pages_of before + growth (statements lines)
+  pub meets : Meets (count_of before) (pages_of before) (tables_of before) (statements lines) counts.added (pages_of now) (tables_of now)
   pub all : (exceptions : Exceptions) → AreMet exceptions (count_of before) now → Done tells exceptions lines (tables_of before) (tables_of now) was is s0 s1
 
--- The store has done a part of the lines, and stopped.
+-- The store has stopped. It has answered the first so many of the lines' statements, the last of them perhaps in part.
 pub record DoesPart (tells : Bool) (lines : List (List ℕ)) (before now : Store) (s0 s1 : State) : Type 0 where
-  pub counts : Counts lines before now
-  pub all : (exceptions : Exceptions) → AreMet exceptions (count_of before) now → DonePart tells exceptions lines (tables_of before) s0 s1
+  pub counts : Counts before now
+  pub answered : ℕ
+  pub meets : MeetsFirst (count_of before) (pages_of before) (tables_of before) (statements lines) answered counts.added
+  pub all : (exceptions : Exceptions) → AreMet exceptions (count_of before) now → DonePart tells exceptions lines answered (tables_of before) s0 s1

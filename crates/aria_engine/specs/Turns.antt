@@ -1,37 +1,23 @@
 -- A line's turn: what it does in memory, and how it comes to the disk and is told.
-use Rattle.std.specs.Prelude.{◌≡◌, ◌⊎◌, ℕ, ◌+◌, ◌<◌, ◌≤◌, ◌==◌, nat_le, if◌then◌else◌, Bool, true, false, IsTrue, Option, Some, None, ⊤, List, [], ◌∷◌, ◌++◌, length, take}
+use Rattle.std.specs.Prelude.{◌≡◌, ◌⊎◌, ℕ, ◌+◌, ◌<◌, ◌≤◌, ◌==◌, nat_le, if◌then◌else◌, Bool, true, false, IsTrue, Option, Some, None, List, [], ◌∷◌, ◌++◌, length, take}
 use Rattle.aria_host.specs.Folder.{Folder}
 use Rattle.aria_host.specs.State.{State, LeavesOnly}
 use Rattle.aria_journal.specs.declared.log.Log.{Log as LogValue}
 use Rattle.aria_journal.specs.Frames.{IsFrame}
 use Rattle.aria_journal.specs.Runs.{HoldsFrames}
 use Rattle.aria_journal.specs.Log.{log_file, IsLog}
-use Rattle.aria_model.specs.declared.refusal.Refusal.{Refusal}
-use Rattle.aria_model.specs.declared.refusal.Refusal.TheVariants.{LogSpent}
 use Rattle.aria_model.specs.declared.refusal.Exception.{Exception}
 use Rattle.aria_model.specs.declared.refusal.Exception.TheVariants.{Spent}
 use Rattle.aria_model.specs.declared.reply.Reply.{Reply}
-use Rattle.aria_model.specs.declared.reply.Reply.TheVariants.{Done, Count, No}
 use Rattle.aria_model.specs.Grammar.{is_blank_line}
 use Rattle.aria_model.specs.Step.{step}
 use Rattle.aria_model.specs.Script.{is_refused, outcome_text, acknowledged}
 use Rattle.aria_model.specs.Journal.{is_change}
 use Rattle.aria_engine.specs.declared.store.Store.{Store}
 use Rattle.aria_engine.specs.declared.tally.Tally.{Tally}
-use Rattle.aria_engine.specs.Entries.{entry}
+use Rattle.aria_engine.specs.Entries.{is_log_spent, due, entry}
 use Rattle.aria_engine.specs.Holds.{IsLogAlone, AreLogAlone}
 use Rattle.aria_engine.specs.Store.{tables_of, pages_of}
-
--- the refusal says that the log is spent
-abbrev pub is_spent : Refusal → Bool
-is_spent (LogSpent file) = true
-is_spent why = false
-
--- the reply does
-abbrev pub is_log_spent : Reply → Bool
-is_log_spent Done = false
-is_log_spent (Count n) = false
-is_log_spent (No why) = is_spent why
 
 -- the exception that a statement with this reply met, where the log's last file is given if it has no room
 abbrev pub exception_of : Option ℕ → Reply → Option Exception
@@ -51,25 +37,18 @@ pub record Notes (before now : Tally) (exception : Option Exception) : Type 0 wh
   pub count : now.count ≡ before.count + 1
   pub met : now.met ≡ before.met ++ entry before.count exception
 
--- the exception is that the log is spent, and it is
-abbrev pub IsSpentLog : ℕ → Option Exception → Type 0
-IsSpentLog pages None = ⊤
-IsSpentLog pages (Some why) = (why ≡ Spent 1) × (524000 ≤ pages)
-
--- a line's statement was counted, or counted and its exception noted, or neither; an exception is that the log is spent
-pub record MayNote (pages : ℕ) (before now : Tally) : Type 0 where
+-- a statement was counted, and this exception noted; or nothing was noted, and it was counted or not
+pub record MayNote (before now : Tally) (exception : Option Exception) : Type 0 where
   pub later : before.count ≤ now.count
-  pub exception : Option Exception
-  pub met : now.met ≡ before.met ++ entry before.count exception
-  pub full : IsSpentLog pages exception
+  pub noted : (now.met ≡ before.met) ⊎ Notes before now exception
 
 -- The line isn't blank, and was executed in memory: this is to be told, and the line is to be kept or not.
 pub record Turned (line : List ℕ) (before now : Store) (refused changed : Bool) : Type 0 where
   pub some : is_blank_line line ≡ false
   pub log : now.log ≡ before.log
   pub exception : Option Exception
+  pub is_due : exception ≡ due (pages_of before) (tables_of before) line
   pub notes : Notes before.tally now.tally exception
-  pub full : IsSpentLog (pages_of before) exception
   pub world : tables_of now ≡ (step (tables_of before) line exception).world
   pub text : now.text ≡ outcome_text (step (tables_of before) line exception)
   pub refused_is : refused ≡ is_refused (step (tables_of before) line exception).reply

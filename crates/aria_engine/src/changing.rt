@@ -4,7 +4,8 @@ ghost use Rattle.std.specs.Prelude.{◌≡◌};
 ghost use Rattle.aria_model.specs.declared.reply.Reply.{Reply};
 ghost use Rattle.aria_model.specs.Script.{is_refused};
 ghost use Rattle.aria_model.specs.Journal.{concerns_some, changes};
-ghost use Rattle.aria_engine.specs.Turns.{is_spent, is_log_spent, exception_of};
+ghost use Rattle.aria_engine.specs.Entries.{is_spent, is_log_spent};
+ghost use Rattle.aria_engine.specs.Turns.{exception_of};
 ghost use Rattle.aria_engine.specs.Changing.{changed_by};
 
 use aria_model::{Exception, Refusal, Reply, Statement};

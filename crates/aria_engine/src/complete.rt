@@ -19,6 +19,7 @@ fn keep<H: Host>(log: &mut Log, host: &mut H, line: &[u8]) -> Result<(), Fault>
         → OnOk result (IsLog log.new (H.state host.new) (lines ++ line.now ∷ []) (length (lines ++ line.now ∷ []))) }
     ensures moments { IsTrue H.tells → (lines : List (List ℕ)) → IsLog log.old (H.state host.old) lines (length lines)
         → LogKeeps (H.state host.old) (H.state host.new) (lines ++ line.now ∷ []) (length lines) }
+    ensures grows { OnOk result (file_pages log.old ≤ file_pages log.new) }
     ensures pages { OnOk result (file_pages log.new ≤ file_pages log.old + (length line.now / 8176 + 2)) }
     ensures cause { HasDiskCause (H.state host.old) (H.state host.new) result }
 {
@@ -35,6 +36,7 @@ fn keep_if<H: Host>(log: &mut Log, host: &mut H, line: &[u8], kept: bool) -> Res
         → OnOk result (IsLog log.new (H.state host.new) (with_line kept lines line.now) (length (with_line kept lines line.now))) }
     ensures moments { IsTrue H.tells → (lines : List (List ℕ)) → IsLog log.old (H.state host.old) lines (length lines)
         → LogMoments (H.state host.old) (H.state host.new) (λ content. HoldsEither content lines (with_line kept lines line.now)) }
+    ensures grows { OnOk result (file_pages log.old ≤ file_pages log.new) }
     ensures pages { OnOk result (file_pages log.new ≤ file_pages log.old + (length line.now / 8176 + 2)) }
     ensures cause { HasDiskCause (H.state host.old) (H.state host.new) result }
 {
@@ -57,6 +59,7 @@ pub(crate) fn complete<H: Host>(
     requires log { IsTrue H.tells → (lines : List (List ℕ)) × IsLog log.old (H.state host.old) lines (length lines) }
     ensures completes { IsTrue H.tells → (lines : List (List ℕ)) → IsLog log.old (H.state host.old) lines (length lines)
         → Completes lines (with_line kept lines line.now) text.now log.new (H.state host.old) (H.state host.new) (is_ok result) }
+    ensures grows { OnOk result (file_pages log.old ≤ file_pages log.new) }
     ensures pages { OnOk result (file_pages log.new ≤ file_pages log.old + (length line.now / 8176 + 2)) }
     ensures cause { IfErr result (λ fault. HasCause fault (H.state host.old) (H.state host.new)) }
     ensures calm { OnOk result (SameFaults (H.state host.old) (H.state host.new)) }

@@ -3,7 +3,8 @@
 ghost use Rattle.std.specs.Prelude.{◌≡◌, ◌≤◌, ◌∷◌, [], false, true, IfOk, IfErr, IfSome, IsErrOf, MatchResult, OnOk, OnErr, IsTrue, None, Some};
 ghost use Rattle.aria_host.specs.Folder.{page_count};
 ghost use Rattle.aria_host.specs.State.{LeavesOnly};
-ghost use Rattle.aria_journal.specs.Log.{log_file};
+ghost use Rattle.aria_journal.specs.Front.{end_of};
+ghost use Rattle.aria_journal.specs.Log.{log_file, log_pages};
 ghost use Rattle.aria_model.specs.Grammar.{is_blank_line};
 ghost use Rattle.aria_model.specs.World.{World};
 ghost use Rattle.aria_engine.specs.Done.{Does, DoesPart};
@@ -44,6 +45,7 @@ impl<'a, H: Host> Engine<'a, H> {
         ensures fresh { IfOk result (λ engine. IsFresh engine.store) }
         ensures holds { IsTrue H.tells → IfOk result (λ engine. Holds (H.state host.old).folder (tables_of engine.store)) }
         ensures running { IsTrue H.tells → IfOk result (λ engine. IsRunning engine.store (H.state engine.host.now)) }
+        ensures ends { IsTrue H.tells → IfOk result (λ engine. pages_of engine.store ≡ end_of (log_pages (H.state host.old).folder)) }
         ensures pages { IsTrue H.tells → IfOk result (λ engine. pages_of engine.store ≤ page_count log_file (H.state host.old).folder) }
         ensures moments { IsTrue H.tells → (world : World) → EachHolds (H.state host.old) world
             → MatchResult result (λ engine. LeavesOnly (H.state host.old) (H.state engine.host.now) (StillHolds world (H.state host.old).out))

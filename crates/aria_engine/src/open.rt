@@ -5,6 +5,7 @@ ghost use Rattle.aria_host.specs.Folder.{page_count};
 ghost use Rattle.aria_host.specs.State.{LeavesOnly};
 ghost use Rattle.aria_host.specs.Calls.{HasDiskCause, HaveNames, Unchanged};
 ghost use Rattle.aria_journal.specs.declared.opened.Frame.{Frame};
+ghost use Rattle.aria_journal.specs.Front.{end_of};
 ghost use Rattle.aria_journal.specs.Log.{log_file, log_pages, IsLogAtRest};
 ghost use Rattle.aria_model.specs.World.{World};
 ghost use Rattle.aria_engine.specs.Holds.{Holds, EachHolds, AreLogAlone};
@@ -80,6 +81,7 @@ fn resume<H: Host>(alloc: Global, host: &mut H) -> Result<Store, Fault>
     ensures fresh { IfOk result (λ store. IsFresh store) }
     ensures holds { IsTrue H.tells → IfOk result (λ store. HoldsLog (H.state host.old).folder (tables_of store)) }
     ensures running { IsTrue H.tells → IfOk result (λ store. IsRunning store (H.state host.new)) }
+    ensures ends { IsTrue H.tells → IfOk result (λ store. pages_of store ≡ end_of (log_pages (H.state host.old).folder)) }
     ensures pages { IsTrue H.tells → IfOk result (λ store. pages_of store ≤ page_count log_file (H.state host.old).folder) }
     ensures keeps { IsTrue H.tells → Keeps (H.state host.old) (H.state host.new) }
     ensures opens { IsTrue H.tells → Opens (H.state host.old) (H.state host.new) (is_ok result) }
@@ -103,6 +105,7 @@ impl Store {
         requires recovered { IsTrue H.tells → Recovered self.old (H.state host.old).folder }
         requires rest { IsTrue H.tells → IsLogAtRest (H.state host.old) }
         ensures running { IsTrue H.tells → OnOk result (IsRunning self.new (H.state host.new)) }
+        ensures ends { IsTrue H.tells → pages_of self.new ≡ end_of (log_pages (H.state host.old).folder) }
         ensures pages { IsTrue H.tells → pages_of self.new ≤ length (log_pages (H.state host.old).folder) }
         ensures keeps { IsTrue H.tells → Keeps (H.state host.old) (H.state host.new) }
         ensures tables { tables_of self.new ≡ tables_of self.old }
@@ -119,6 +122,7 @@ impl Store {
         ensures fresh { IfOk result (λ store. IsFresh store) }
         ensures holds { IsTrue H.tells → IfOk result (λ store. Holds (H.state host.old).folder (tables_of store)) }
         ensures running { IsTrue H.tells → IfOk result (λ store. IsRunning store (H.state host.new)) }
+        ensures ends { IsTrue H.tells → IfOk result (λ store. pages_of store ≡ end_of (log_pages (H.state host.old).folder)) }
         ensures pages { IsTrue H.tells → IfOk result (λ store. pages_of store ≤ page_count log_file (H.state host.old).folder) }
         ensures moments { IsTrue H.tells → (world : World) → EachHolds (H.state host.old) world
             → LeavesOnly (H.state host.old) (H.state host.new) (StillHolds world (H.state host.old).out) }

@@ -1,10 +1,12 @@
 //! A line in memory: what it does to the tables, and what it tells.
 
-ghost use Rattle.std.specs.Prelude.{◌≡◌, ◌++◌, [], ℕ, List, Err, IfOk, OnOk, MatchOption};
+ghost use Rattle.std.specs.Prelude.{◌≡◌, ◌++◌, [], ℕ, List, Option, Err, IfOk, OnOk, MatchOption};
+ghost use Rattle.aria_model.specs.declared.refusal.Exception.{Exception};
 ghost use Rattle.aria_model.specs.Grammar.{read_line};
 ghost use Rattle.aria_model.specs.Script.{is_refused};
 ghost use Rattle.aria_model.specs.Text.{reply_text, IsOneLine};
-ghost use Rattle.aria_engine.specs.Store.{pages_of};
+ghost use Rattle.aria_engine.specs.Entries.{due};
+ghost use Rattle.aria_engine.specs.Store.{pages_of, tables_of};
 ghost use Rattle.aria_engine.specs.Changing.{changed_by};
 ghost use Rattle.aria_engine.specs.Turns.{spent_of, MayNote, Turned, Passed};
 
@@ -53,7 +55,7 @@ impl Store {
     fn refuse(&mut self, why: Refusal) -> Result<Turn, AllocError>
         requires text { self.old.text ≡ [] }
         ensures turned { IfOk result (λ turn. (line : List ℕ) → read_line line ≡ Err why → Turned line self.old self.new turn.refused turn.changed) }
-        ensures noted { MayNote (pages_of self.old) self.old.tally self.new.tally }
+        ensures noted { (exception : Option Exception) → MayNote self.old.tally self.new.tally exception }
         ensures kept { self.new.kept ≡ self.old.kept }
         ensures log { self.new.log ≡ self.old.log }
     {
@@ -68,7 +70,7 @@ impl Store {
     /// Executes a line in memory; `None` where it is blank. What it tells is the text then.
     pub(crate) fn take(&mut self, alloc: Global, line: &[u8]) -> Result<Option<Turn>, AllocError>
         ensures turned { IfOk result (λ found. MatchOption found (Passed line.now self.old self.new) (λ turn. Turned line.now self.old self.new turn.refused turn.changed)) }
-        ensures noted { MayNote (pages_of self.old) self.old.tally self.new.tally }
+        ensures noted { MayNote self.old.tally self.new.tally (due (pages_of self.old) (tables_of self.old) line.now) }
         ensures kept { self.new.kept ≡ self.old.kept }
         ensures log { self.new.log ≡ self.old.log }
     {

@@ -1,6 +1,6 @@
 -- A whole command: its store is opened, its script is run, and it ends.
-use Rattle.std.proofs.Common.{◌≡◌, inl, inr, ⊎_elim, ℕ, ◌+◌, ◌-◌, ◌^◌, ◌≤◌, min, Bool, true, false, Option, Some, None, List, ◌∷◌, ◌++◌, length, take, drop, IsTrue, Result, Ok, Err, refl, sym, ap, subst, ◌∙◌, arith}
-use Rattle.std.specs.Prelude.{◌↔◌, ◌⊎◌, IfErr, IsSome}
+use Rattle.std.proofs.Common.{◌≡◌, inl, inr, ⊎_elim, ℕ, ◌+◌, ◌-◌, ◌^◌, ◌≤◌, min, Bool, true, false, Option, Some, None, List, [], ◌∷◌, ◌++◌, length, take, drop, IsTrue, Result, Ok, Err, refl, sym, ap, subst, ◌∙◌, arith}
+use Rattle.std.specs.Prelude.{◌↔◌, ◌⊎◌, IfErr, OnOk, IsSome}
 use Rattle.std.proofs.lemmas.List.{append-nil, length-append}
 use Rattle.std.proofs.Math.Seq.{take-length, drop-append_seam}
 use Rattle.aria_host.specs.Count.{Rose}
@@ -9,15 +9,23 @@ use Rattle.aria_host.specs.declared.fault.Fault.{Fault}
 use Rattle.aria_host.specs.declared.fault.Fault.TheVariants as faults
 use Rattle.aria_host.proofs.Moments.{joined, weakened}
 use Rattle.aria_model.specs.World.{World}
-use Rattle.aria_model.specs.Script.{Exceptions, lines_of, ended_lines, after, told, any_refused, acknowledged}
-use Rattle.aria_engine.specs.Holds.{Holds, HoldsSome, EachHolds, EachHoldsSome, IsDamage}
-use Rattle.aria_engine.specs.Store.{SameFaults, OpensAs, HasOpenCause}
+use Rattle.aria_journal.specs.Front.{end_of}
+use Rattle.aria_journal.specs.Log.{log_pages}
+use Rattle.aria_model.specs.declared.refusal.Met.{Met}
+use Rattle.aria_model.specs.Journal.{met_at}
+use Rattle.aria_model.specs.Script.{Exceptions, lines_of, ended_lines, statements, after, told, told_first, any_refused, acknowledged}
+use Rattle.aria_engine.specs.declared.store.Store.{Store}
+use Rattle.aria_engine.specs.Entries.{Meets, MeetsFirst}
+use Rattle.aria_engine.specs.Holds.{Holds, HoldsSome, EachHolds, EachHoldsSome, AreLogAlone, IsDamage}
+use Rattle.aria_engine.specs.Store.{tables_of, pages_of, SameFaults, OpensAs, HasOpenCause}
 use Rattle.aria_engine.specs.Done.{Leaves}
-use Rattle.aria_engine.proofs.Leaving.{leaves_none}
+use Rattle.aria_engine.proofs.Leaving.{first_all, part_of_first, leaves_none}
+use Rattle.aria_engine.proofs.Meeting.{meets_no_first}
 use Rattle.aria_tools.specs.declared.stop.Stop.{Stop}
 use Rattle.aria_tools.specs.declared.stop.Stop.TheVariants.{Memory, Disk, LogDamaged, NotOurs, Input, Tell, TooLong, LogSpent, ControlDamaged, PageDamaged, FileMissing, TooManyTables}
+use Rattle.aria_tools.specs.Sessions.{Works}
 use Rattle.aria_tools.specs.Stops.{named_fault, status_of, stop_of}
-use Rattle.aria_tools.specs.Endings.{Supply, StopsBy, Ends, AnswersAll, AnswersBy, AnswersEnded, AnswersFull, Answered, WasSound, Runs, RunsWhole, Began, Prefix, BeganOrPrefix, IsEnd, IsEndText, IsStatusText, TellsText, TellsErr, status_of_run}
+use Rattle.aria_tools.specs.Endings.{Supply, StopsBy, Ends, AnswersAll, AnswersBy, AnswersEnded, AnswersFull, Answered, WasSound, RunsWhole, MeetsDue, MeetsAllDue, Began, Prefix, BeganOrPrefix, IsEnd, IsEndText, IsStatusText, TellsText, TellsErr, status_of_run}
 use Rattle.aria_tools.proofs.Pieces.{rose_since, same_faults_more}
 
 -- in the words of the whole run
@@ -60,16 +68,17 @@ by_after (PageDamaged file page) s0 s1 w xs h h0 h1 same by = tt
 by_after (FileMissing file) s0 s1 w xs h h0 h1 same by = tt
 by_after TooManyTables s0 s1 w xs h h0 h1 same by = tt
 
-answered_after : (s0 s1 : Supply) (w : World) (xs : Exceptions) (r : Result Bool Stop) (h h0 h1 : State) → h0.out ≡ h.out → Answered s0 s1 w xs r h0 h1 → Answered s0 s1 w xs r h h1
-answered_after s0 s1 w xs (Ok refused) h h0 h1 same all = record {
+answered_after : (s0 s1 : Supply) (w : World) (xs : Exceptions) (k : ℕ) (r : Result Bool Stop) (h h0 h1 : State) → h0.out ≡ h.out → Answered s0 s1 w xs k r h0 h1 → Answered s0 s1 w xs k r h h1
+answered_after s0 s1 w xs k (Ok refused) h h0 h1 same all = record {
+  all = all.all;
   out = all.out ∙ ap (λ (o : List ℕ). o ++ told w (lines_of s0.left) xs) same;
   is_refused = all.is_refused;
   rest = all.rest;
   settled = all.settled;
   holds = all.holds;
 }
-answered_after s0 s1 w xs (Err stop) h h0 h1 same part = record {
-  out = (part.out.0, part.out.1 ∙ ap (λ (o : List ℕ). o ++ take part.out.0 (told w (lines_of s0.left) xs)) same);
+answered_after s0 s1 w xs k (Err stop) h h0 h1 same part = record {
+  out = (part.out.0, part.out.1 ∙ ap (λ (o : List ℕ). o ++ take part.out.0 (told_first w (lines_of s0.left) xs k)) same);
   by = by_after stop s0 s1 w xs h h0 h1 same part.by;
 }
 
@@ -78,10 +87,23 @@ opens_began : (h : State) (w : World) (lines : List (List ℕ)) (xs : Exceptions
 opens_began h w lines xs c t (left, is) = ⊎_elim (λ was. inl (was, is)) (λ holds. inr (leaves_none w lines xs h.out c t is holds)) left
 
 -- a run, also since its store was opened
-pub runs_after : (s0 s1 : Supply) (world opened : World) (xs : Exceptions) (r : Result Bool Stop) (h h0 h1 : State) → opened ≡ world → h0.out ≡ h.out
-    → LeavesOnly h h0 (OpensAs h world) → Runs s0 s1 opened xs r h0 h1 → RunsWhole s0 s1 world xs r h h1
-runs_after s0 s1 world opened xs r h h0 h1 is same opens runs = record {
-  answered = answered_after s0 s1 world xs r h h0 h1 same (subst (λ (w : World). Answered s0 s1 w xs r h0 h1) is runs.answered);
+pub runs_after : (to : Bool) (s0 s1 : Supply) (world : World) (store : Store) (met : List Met) (r : Result Bool Stop) (h h0 h1 : State) → tables_of store ≡ world
+    → pages_of store ≡ end_of (log_pages h.folder) → h0.out ≡ h.out → LeavesOnly h h0 (OpensAs h world) → IsTrue to → AreLogAlone h0 → Works to s0 s1 r met store h0 h1 → RunsWhole s0 s1 world met r h h1
+runs_after to s0 s1 world store met r h h0 h1 is pages same opens told alone works =
+    let opened = tables_of store in
+    let xs : Exceptions = met_at met in
+    let lines = statements (lines_of s0.left) in
+    let runs = works.runs told alone in record {
+  count = works.count;
+  meets = record {
+    within = works.meets.within;
+    last = works.meets.last;
+    left = works.meets.left;
+    meets = subst (λ (w : World). Meets 0 (end_of (log_pages h.folder)) w (take works.count lines) met works.meets.last works.meets.left) is
+        (subst (λ (k : ℕ). Meets 0 k opened (take works.count lines) met works.meets.last works.meets.left) pages works.meets.meets);
+  };
+  pages = works.pages told;
+  answered = answered_after s0 s1 world xs works.count r h h0 h1 same (subst (λ (w : World). Answered s0 s1 w xs works.count r h0 h1) is runs.answered);
   moments = joined h h0 h1 (λ c t. Began h c t ⊎ Leaves world (lines_of s0.left) xs h.out c t) (Leaves opened (lines_of s0.left) xs h0.out)
       (weakened h h0 (OpensAs h world) (λ c t. Began h c t ⊎ Leaves world (lines_of s0.left) xs h.out c t) opens (opens_began h world (lines_of s0.left) xs))
       runs.moments
@@ -89,9 +111,13 @@ runs_after s0 s1 world opened xs r h h0 h1 is same opens runs = record {
 }
 
 -- a run that stopped as its store was opened
-pub runs_never : (s0 s1 : Supply) (world : World) (xs : Exceptions) (stop : Stop) (h h0 : State) → h0.out ≡ h.out → AnswersBy stop s0 s1 world xs h h0
-    → LeavesOnly h h0 (OpensAs h world) → RunsWhole s0 s1 world xs (Err stop) h h0
-runs_never s0 s1 world xs stop h h0 same by opens = record {
+pub runs_never : (s0 s1 : Supply) (world : World) (met : List Met) (stop : Stop) (h h0 : State) → met ≡ [] → h0.out ≡ h.out → AnswersBy stop s0 s1 world (met_at met) h h0
+    → LeavesOnly h h0 (OpensAs h world) → RunsWhole s0 s1 world met (Err stop) h h0
+runs_never s0 s1 world met stop h h0 none same by opens = let xs : Exceptions = met_at met in record {
+  count = 0;
+  meets = subst (λ (ms : List Met). MeetsFirst 0 (end_of (log_pages h.folder)) world (statements (lines_of s0.left)) 0 ms) (sym none)
+      (meets_no_first 0 (end_of (log_pages h.folder)) world (statements (lines_of s0.left)));
+  pages = tt;
   answered = record { out = (0, same ∙ sym (append-nil h.out)); by = by };
   moments = weakened h h0 (OpensAs h world) (λ c t. Began h c t ⊎ Leaves world (lines_of s0.left) xs h.out c t) opens (opens_began h world (lines_of s0.left) xs);
 }
@@ -156,8 +182,8 @@ pub ended_ok : (r : Result Bool Stop) (status : ℕ) → IsEnd r status → stat
 ended_ok r status end low = ⊎_elim (λ (is : status ≡ status_of_run r). let ok = ok_of r (omega (arith, low, is)) in (ok.0, ok.1, is)) (λ both. absurd (omega (arith, low, both.0))) end
 
 -- what a run that has read all has answered
-pub all_answered : (s0 s1 : Supply) (w : World) (xs : Exceptions) (r : Result Bool Stop) (refused : Bool) (h h0 : State) → r ≡ Ok refused → RunsWhole s0 s1 w xs r h h0 → AnswersAll s0 w xs refused h h0
-all_answered s0 s1 w xs r refused h h0 is runs = subst (λ (o : Result Bool Stop). Answered s0 s1 w xs o h h0) is runs.answered
+pub all_answered : (s0 s1 : Supply) (w : World) (met : List Met) (r : Result Bool Stop) (refused : Bool) (h h0 : State) → r ≡ Ok refused → (runs : RunsWhole s0 s1 w met r h h0) → AnswersAll s0 w (met_at met) runs.count refused h h0
+all_answered s0 s1 w met r refused h h0 is runs = subst (λ (o : Result Bool Stop). Answered s0 s1 w (met_at met) runs.count o h h0) is runs.answered
 
 one_where : (refused any : Bool) (status : ℕ) → status ≡ status_of_run (Ok refused) → refused ≡ any → (status ≡ 1) ↔ IsTrue any
 one_where true true status is same = (λ h. refl, λ h. is)
@@ -166,12 +192,12 @@ one_where true false status is same = absurd (cc)
 one_where false true status is same = absurd (cc)
 
 -- a refusal is told by the status
-pub refused_is : (s0 s1 : Supply) (w : World) (xs : Exceptions) (r : Result Bool Stop) (status : ℕ) (h h0 : State) → IsEnd r status → status ≤ 1 → RunsWhole s0 s1 w xs r h h0
-    → (status ≡ 1) ↔ IsTrue (any_refused w (lines_of s0.left) xs)
-refused_is s0 s1 w xs r status h h0 end low runs =
+pub refused_is : (s0 s1 : Supply) (w : World) (met : List Met) (r : Result Bool Stop) (status : ℕ) (h h0 : State) → IsEnd r status → status ≤ 1 → RunsWhole s0 s1 w met r h h0
+    → (status ≡ 1) ↔ IsTrue (any_refused w (lines_of s0.left) (met_at met))
+refused_is s0 s1 w met r status h h0 end low runs =
     let ok = ended_ok r status end low in
-    let all = all_answered s0 s1 w xs r ok.0 h h0 ok.1 runs in
-    one_where ok.0 (any_refused w (lines_of s0.left) xs) status (ok.2 ∙ ap status_of_run ok.1) all.is_refused
+    let all = all_answered s0 s1 w met r ok.0 h h0 ok.1 runs in
+    one_where ok.0 (any_refused w (lines_of s0.left) (met_at met)) status (ok.2 ∙ ap status_of_run ok.1) all.is_refused
 
 -- the statuses of an ended run
 pub run_statuses : (ti to : Bool) (s0 s1 : Supply) (r : Result Bool Stop) (status : ℕ) (h h0 : State) → Ends ti to s0 s1 r h h0 → IsEnd r status → status ≤ 8
@@ -226,25 +252,58 @@ stop_eight (Err (FileMissing file)) is = absurd (omega (arith, is))
 stop_eight (Err TooManyTables) is = absurd (omega (arith, is))
 
 -- what a run has answered at a fault of the input
-pub ended_answered : (s0 s1 : Supply) (w : World) (xs : Exceptions) (r : Result Bool Stop) (status : ℕ) (h h0 h1 : State) → IsEnd r status → status ≡ 6 → RunsWhole s0 s1 w xs r h h0 → h1.out ≡ h0.out → AnswersEnded s0 s1 w xs h h1
-ended_answered s0 s1 w xs r status h h0 h1 end six runs same =
+pub ended_answered : (s0 s1 : Supply) (w : World) (met : List Met) (r : Result Bool Stop) (status : ℕ) (h h0 h1 : State) → IsEnd r status → status ≡ 6 → RunsWhole s0 s1 w met r h h0 → h1.out ≡ h0.out → AnswersEnded s0 s1 w (met_at met) h h1
+ended_answered s0 s1 w met r status h h0 h1 end six runs same =
     let is = stop_six r (⊎_elim (λ (e : status ≡ status_of_run r). sym e ∙ six) (λ both. absurd (omega (arith, six, both.0))) end) in
-    let part = subst (λ (o : Result Bool Stop). Answered s0 s1 w xs o h h0) is runs.answered in
+    let part = subst (λ (o : Result Bool Stop). Answered s0 s1 w (met_at met) runs.count o h h0) is runs.answered in
     (part.by.0, part.by.1, same ∙ part.by.2)
 
-pub full_answered : (s0 s1 : Supply) (w : World) (xs : Exceptions) (r : Result Bool Stop) (status : ℕ) (h h0 h1 : State) → IsEnd r status → status ≡ 8 → RunsWhole s0 s1 w xs r h h0 → h1.out ≡ h0.out → AnswersFull s0 s1 w xs h h1
-full_answered s0 s1 w xs r status h h0 h1 end eight runs same =
+pub full_answered : (s0 s1 : Supply) (w : World) (met : List Met) (r : Result Bool Stop) (status : ℕ) (h h0 h1 : State) → IsEnd r status → status ≡ 8 → RunsWhole s0 s1 w met r h h0 → h1.out ≡ h0.out → AnswersFull s0 s1 w (met_at met) h h1
+full_answered s0 s1 w met r status h h0 h1 end eight runs same =
     let is = stop_eight r (⊎_elim (λ (e : status ≡ status_of_run r). sym e ∙ eight) (λ both. absurd (omega (arith, eight, both.0))) end) in
-    let part = subst (λ (o : Result Bool Stop). Answered s0 s1 w xs o h h0) is runs.answered in
+    let part = subst (λ (o : Result Bool Stop). Answered s0 s1 w (met_at met) runs.count o h h0) is runs.answered in
     (part.by.0, part.by.1, part.by.2, part.by.3, same ∙ part.by.4)
 
--- a front of what all lines tell was told
-pub front_told : (s0 s1 : Supply) (w : World) (xs : Exceptions) (r : Result Bool Stop) (h h0 : State) → RunsWhole s0 s1 w xs r h h0 → (n : ℕ) × (h0.out ≡ h.out ++ take n (told w (lines_of s0.left) xs))
-front_told s0 s1 w xs r h h0 runs = front r runs.answered
+-- a front of what the statements tell that were answered was told
+first_told : (s0 s1 : Supply) (w : World) (met : List Met) (r : Result Bool Stop) (h h0 : State) → (runs : RunsWhole s0 s1 w met r h h0)
+    → (n : ℕ) × (h0.out ≡ h.out ++ take n (told_first w (lines_of s0.left) (met_at met) runs.count))
+first_told s0 s1 w met r h h0 runs = front r runs.answered
   where
-    front : (o : Result Bool Stop) → Answered s0 s1 w xs o h h0 → (n : ℕ) × (h0.out ≡ h.out ++ take n (told w (lines_of s0.left) xs))
-    front (Ok refused) all = let text = told w (lines_of s0.left) xs in (length text, all.out ∙ ap (λ (t : List ℕ). h.out ++ t) (sym (take-length text)))
+    front : (o : Result Bool Stop) → Answered s0 s1 w (met_at met) runs.count o h h0 → (n : ℕ) × (h0.out ≡ h.out ++ take n (told_first w (lines_of s0.left) (met_at met) runs.count))
+    front (Ok refused) all =
+        let text = told w (lines_of s0.left) (met_at met) in
+        let whole : told_first w (lines_of s0.left) (met_at met) runs.count ≡ text = ap (told_first w (lines_of s0.left) (met_at met)) all.all ∙ first_all w (lines_of s0.left) (met_at met) in
+        (length text, all.out ∙ ap (λ (t : List ℕ). h.out ++ t) (sym (take-length text) ∙ ap (take (length text)) (sym whole)))
     front (Err stop) part = part.out
+
+-- exactly the statements to which it was due met an exception
+pub meets_due : (s0 s1 : Supply) (w : World) (met : List Met) (r : Result Bool Stop) (h h0 h1 : State) → RunsWhole s0 s1 w met r h h0 → h1.out ≡ h0.out → MeetsDue w (lines_of s0.left) met h h1
+meets_due s0 s1 w met r h h0 h1 runs same = let first = first_told s0 s1 w met r h h0 runs in record {
+  count = runs.count;
+  meets = runs.meets;
+  told = (first.0, same ∙ first.1);
+}
+
+pub meets_all_due : (s0 s1 : Supply) (w : World) (met : List Met) (r : Result Bool Stop) (status : ℕ) (h h0 h1 : State) → IsEnd r status → status ≤ 1 → RunsWhole s0 s1 w met r h h0 → h1.folder ≡ h0.folder
+    → MeetsAllDue w (lines_of s0.left) met h h1
+meets_all_due s0 s1 w met r status h h0 h1 end low runs same =
+    let ok = ended_ok r status end low in
+    let all = all_answered s0 s1 w met r ok.0 h h0 ok.1 runs in
+    let lines = statements (lines_of s0.left) in
+    let whole : take runs.count lines ≡ lines = ap (λ (n : ℕ). take n lines) all.all ∙ take-length lines in
+    let pages : OnOk (Ok {E = Stop} ok.0) (runs.meets.last ≡ length (log_pages h0.folder)) = subst (λ (o : Result Bool Stop). OnOk o (runs.meets.last ≡ length (log_pages h0.folder))) ok.1 runs.pages in
+    let last : runs.meets.last ≡ length (log_pages h1.folder) = pages ∙ ap (λ (f : Folder). length (log_pages f)) (sym same) in (
+      runs.meets.left,
+      subst (λ (n : ℕ). Meets 0 (end_of (log_pages h.folder)) w lines met n runs.meets.left) last
+          (subst (λ (ls : List (List ℕ)). Meets 0 (end_of (log_pages h.folder)) w ls met runs.meets.last runs.meets.left) whole runs.meets.meets),
+    )
+
+-- a front of what all lines tell was told
+pub front_told : (s0 s1 : Supply) (w : World) (met : List Met) (r : Result Bool Stop) (h h0 : State) → RunsWhole s0 s1 w met r h h0 → (n : ℕ) × (h0.out ≡ h.out ++ take n (told w (lines_of s0.left) (met_at met)))
+front_told s0 s1 w met r h h0 runs =
+    let first = first_told s0 s1 w met r h h0 runs in
+    let part = part_of_first w (lines_of s0.left) (met_at met) runs.count first.0 in
+    (part.0, first.1 ∙ ap (λ (t : List ℕ). h.out ++ t) part.1)
 
 -- where a run stops at a fault that its line names, the folder is damaged
 damage_found : (ti to : Bool) (s0 s1 : Supply) (stop : Stop) (fault : Fault) (h h0 : State) → named_fault stop ≡ Some fault → StopsBy to stop s0 s1 h h0 → IsTrue to → (status_of stop ≡ 5) × IsDamage fault h.folder
@@ -296,17 +355,17 @@ no_damage (faults.FileMissing file) folder w damage holds = absurd damage
 no_damage faults.TooManyTables folder w damage holds = absurd damage
 
 -- no fault is counted, so none is answered
-pub completes : (to : Bool) (ti : Bool) (s0 s1 : Supply) (w : World) (xs : Exceptions) (r : Result Bool Stop) (status : ℕ) (h h0 h1 : State) → IsTrue to → Holds h.folder w
-    → Ends ti to s0 s1 r h h0 → RunsWhole s0 s1 w xs r h h0 → IsEnd r status → length s0.left ≤ 2 ^ 40
+pub completes : (to : Bool) (ti : Bool) (s0 s1 : Supply) (w : World) (met : List Met) (r : Result Bool Stop) (status : ℕ) (h h0 h1 : State) → IsTrue to → Holds h.folder w
+    → Ends ti to s0 s1 r h h0 → RunsWhole s0 s1 w met r h h0 → IsEnd r status → length s0.left ≤ 2 ^ 40
     → (Rose h.disk_faults h1.disk_faults → ⊥) → (Rose h.tell_faults h1.tell_faults → ⊥) → (Rose s0.faults s1.faults → ⊥)
     → h0.disk_faults ≤ h1.disk_faults → h0.tell_faults ≤ h1.tell_faults → (status ≤ 1) ⊎ (status ≡ 3)
-completes to ti s0 s1 w xs r status h h0 h1 told holds ends runs end short disk tell input disk_later tell_later =
+completes to ti s0 s1 w met r status h h0 h1 told holds ends runs end short disk tell input disk_later tell_later =
     ⊎_elim (λ (is : status ≡ status_of_run r). subst (λ (n : ℕ). (n ≤ 1) ⊎ (n ≡ 3)) (sym is) (of r ends runs.answered)) (λ both. inr both.0) end
   where
     rose_on : (a b c m : ℕ) → min (a + 1) m ≤ b → b ≤ c → min (a + 1) m ≤ c
     rose_on a b c m rose later = omega arith
 
-    of : (o : Result Bool Stop) → Ends ti to s0 s1 o h h0 → Answered s0 s1 w xs o h h0 → (status_of_run o ≤ 1) ⊎ (status_of_run o ≡ 3)
+    of : (o : Result Bool Stop) → Ends ti to s0 s1 o h h0 → Answered s0 s1 w (met_at met) runs.count o h h0 → (status_of_run o ≤ 1) ⊎ (status_of_run o ≡ 3)
     of (Ok true) all answered = inl (omega arith)
     of (Ok false) all answered = inl (omega arith)
     of (Err Memory) stops answered = inr refl

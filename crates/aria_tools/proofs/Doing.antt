@@ -1,21 +1,24 @@
 -- A line that is clipped, and whether a statement was refused.
-use Rattle.std.proofs.Common.{◌≡◌, ℕ, zero, suc, ◌+◌, ◌-◌, ◌/◌, ◌≤◌, Bool, false, ◌||◌, List, [], ◌∷◌, ◌++◌, length, take, true, cond, Option, Result, refl, sym, ap, subst, ◌∙◌, arith}
+use Rattle.std.proofs.Common.{◌≡◌, ℕ, zero, suc, ◌+◌, ◌≤◌, Bool, false, ◌||◌, ◌&&◌, nat_le, List, [], ◌∷◌, ◌++◌, length, take, true, cond, Option, Some, None, Result, refl, sym, ap, subst, ◌∙◌, arith}
 use Rattle.std.specs.Prelude.{not}
 use Rattle.std.specs.List.{flat_map, list_any}
 use Rattle.aria_host.specs.State.{Folder, State}
 use Rattle.aria_host.proofs.Moments.{weakened}
 use Rattle.aria_model.specs.World.{World}
 use Rattle.std.proofs.lemmas.List.{length-take}
-use Rattle.std.proofs.lemmas.List.Elements.{All-weaker}
 use Rattle.aria_engine.specs.Holds.{Holds}
 use Rattle.aria_model.specs.Script.{Exceptions, statements, after, world_after, outcomes, told, told_first, acknowledged, is_refused, outcome_text}
 use Rattle.aria_model.specs.Grammar.{read_line, is_blank_line}
 use Rattle.aria_model.specs.Step.{Outcome, answered, step}
 use Rattle.aria_model.specs.declared.statement.Statement.{Statement}
 use Rattle.aria_model.specs.declared.refusal.Refusal.{Refusal}
+use Rattle.aria_model.specs.declared.refusal.Exception.{Exception}
+use Rattle.aria_model.specs.declared.refusal.Exception.TheVariants.{Spent}
+use Rattle.aria_model.specs.declared.refusal.Met.{Met}
 use Rattle.aria_engine.specs.declared.store.Store.{Store}
 use Rattle.aria_engine.specs.Store.{tables_of, count_of, pages_of}
-use Rattle.aria_engine.specs.Done.{Leaves, Done, DonePart, Does, DoesPart, Counts, IsFull, growth}
+use Rattle.aria_engine.specs.Entries.{is_log_spent, due, entry, Meets, MeetsFirst}
+use Rattle.aria_engine.specs.Done.{Leaves, Done, DonePart, Does, DoesPart}
 use Rattle.aria_tools.specs.Held.{clipped}
 use Rattle.aria_tools.proofs.Splitting.{read_line-clipped, is_blank_line-clipped}
 
@@ -110,61 +113,55 @@ leaves_clipped w line xs out c t leaves =
       holds = subst (λ (v : World). Holds c v) (after_same w line xs leaves.count) leaves.holds;
     }
 
--- how much so many of the statements that one line is may add
-abbrev growth_part : ℕ → Bool → ℕ → ℕ
-growth_part n true size = 0
-growth_part zero false size = 0
-growth_part (suc n) false size = size / 8176 + 2
+-- clipped or not, the line meets the same exceptions
+due_same : (pages : ℕ) (w : World) (a b : List ℕ) → read_line a ≡ read_line b → due pages w a ≡ due pages w b
+due_same pages w a b read = ap (λ (r : Result (Option Statement) Refusal). cond (nat_le 524000 pages && is_log_spent (answered w r (Some (Spent 1))).reply) (Some (Spent 1)) None) read
 
-growth_one : (line : List ℕ) (blank : Bool) (n : ℕ) → growth (take n (cond (not blank) (line ∷ []) [])) ≡ growth_part n blank (length line)
-growth_one line true zero = refl
-growth_one line true (suc n) = refl
-growth_one line false zero = refl
-growth_one line false (suc zero) = omega arith
-growth_one line false (suc (suc n)) = omega arith
+meets_same : (nth pages : ℕ) (w : World) (a b : List ℕ) (ms : List Met) (last : ℕ) (left : World) → length a ≤ length b → read_line a ≡ read_line b
+    → Meets nth pages w (a ∷ []) ms last left → Meets nth pages w (b ∷ []) ms last left
+meets_same nth pages w a b ms last left low read (next, more, rises, within, is, none, same, world) = (
+  next,
+  more,
+  rises,
+  omega (arith, within, low),
+  is ∙ ap (λ (x : Option Exception). entry nth x ++ more) (due_same pages w a b read),
+  (none, same, world ∙ (λ i. (answered w (read i) (due_same pages w a b read i)).world)),
+)
 
-growth_more : (n : ℕ) (blank : Bool) (a b : ℕ) → a ≤ b → growth_part n blank a ≤ growth_part n blank b
-growth_more n true a b low = omega arith
-growth_more zero false a b low = omega arith
-growth_more (suc n) false a b low = omega arith
+meets_part : (nth pages : ℕ) (w : World) (a b : List ℕ) (ms : List Met) (last : ℕ) (left : World) (n : ℕ) (blank : Bool) → length a ≤ length b → read_line a ≡ read_line b
+    → Meets nth pages w (take n (cond (not blank) (a ∷ []) [])) ms last left → Meets nth pages w (take n (cond (not blank) (b ∷ []) [])) ms last left
+meets_part nth pages w a b ms last left zero true low read meets = meets
+meets_part nth pages w a b ms last left (suc n) true low read meets = meets
+meets_part nth pages w a b ms last left zero false low read meets = meets
+meets_part nth pages w a b ms last left (suc zero) false low read meets = meets_same nth pages w a b ms last left low read meets
+meets_part nth pages w a b ms last left (suc (suc n)) false low read meets = meets_same nth pages w a b ms last left low read meets
 
-growth_clipped : (line : List ℕ) (n : ℕ) → growth (take n (statements (clipped line ∷ []))) ≤ growth (take n (statements (line ∷ [])))
-growth_clipped line n =
-    let low : length (clipped line) ≤ length line = low_of 1048577 line in
-    let le = growth_more n (is_blank_line line) (length (clipped line)) (length line) low in
-    let front : growth (take n (statements (clipped line ∷ []))) ≡ growth_part n (is_blank_line line) (length (clipped line)) =
-    growth_one (clipped line) (is_blank_line (clipped line)) n ∙ ap (λ (x : Bool). growth_part n x (length (clipped line))) (is_blank_line-clipped line) in
-    let whole = growth_one line (is_blank_line line) n in
-    bounded _ _ _ _ front whole le
-  where
-    low_of : (n : ℕ) (l : List ℕ) → length (take n l) ≤ length l
-    low_of n l = omega (arith, length-take n l)
+meets_clipped : (nth pages : ℕ) (w : World) (line : List ℕ) (ms : List Met) (last : ℕ) (left : World) (n : ℕ)
+    → Meets nth pages w (take n (statements (clipped line ∷ []))) ms last left → Meets nth pages w (take n (statements (line ∷ []))) ms last left
+meets_clipped nth pages w line ms last left n meets =
+    meets_part nth pages w (clipped line) line ms last left n (is_blank_line line) (omega (arith, length-take 1048577 line)) (read_line-clipped line)
+    (subst (λ (blank : Bool). Meets nth pages w (take n (cond (not blank) (clipped line ∷ []) [])) ms last left) (is_blank_line-clipped line) meets)
 
-    bounded : (a b x y : ℕ) → a ≡ x → b ≡ y → x ≤ y → a ≤ b
-    bounded a b x y ax by le = omega arith
+-- one line is one statement or none
+all_one : (l : List ℕ) (blank : Bool) → take 1 (cond (not blank) (l ∷ []) []) ≡ cond (not blank) (l ∷ []) []
+all_one l true = refl
+all_one l false = refl
 
-counts_clipped : (line : List ℕ) (before now : Store) → Counts (clipped line ∷ []) before now → Counts (line ∷ []) before now
-counts_clipped line before now counts = record {
-  later = counts.later;
-  kept = counts.kept;
-  added = counts.added;
-  met_is = counts.met_is;
-  full = All-weaker (IsFull (clipped line ∷ []) (count_of before) (pages_of before)) (IsFull (line ∷ []) (count_of before) (pages_of before))
-      (λ met full. let le = growth_clipped line (met.nth - count_of before) in record { why = full.why; since_then = full.since_then; pages_are = omega (arith, full.pages_are, le) })
-      counts.added counts.full;
+meets_whole : (nth pages : ℕ) (w : World) (line : List ℕ) (ms : List Met) (last : ℕ) (left : World)
+    → Meets nth pages w (statements (clipped line ∷ [])) ms last left → Meets nth pages w (statements (line ∷ [])) ms last left
+meets_whole nth pages w line ms last left meets =
+    subst (λ (ls : List (List ℕ)). Meets nth pages w ls ms last left) (all_one line (is_blank_line line))
+    (meets_clipped nth pages w line ms last left 1
+    (subst (λ (ls : List (List ℕ)). Meets nth pages w ls ms last left) (sym (all_one (clipped line) (is_blank_line (clipped line)))) meets))
+
+meets_first : (nth pages : ℕ) (w : World) (line : List ℕ) (n : ℕ) (ms : List Met)
+    → MeetsFirst nth pages w (statements (clipped line ∷ [])) n ms → MeetsFirst nth pages w (statements (line ∷ [])) n ms
+meets_first nth pages w line n ms first = record {
+  within = subst (λ (k : ℕ). n ≤ k) (length_same line) first.within;
+  last = first.last;
+  left = first.left;
+  meets = meets_clipped nth pages w line ms first.last first.left n first.meets;
 }
-
-growth_whole : (line : List ℕ) → growth (statements (clipped line ∷ [])) ≤ growth (statements (line ∷ []))
-growth_whole line =
-    let le = growth_clipped line 1 in
-    bounded _ _ _ _ (ap growth (all_one (clipped line) (is_blank_line (clipped line)))) (ap growth (all_one line (is_blank_line line))) le
-  where
-    all_one : (l : List ℕ) (blank : Bool) → take 1 (cond (not blank) (l ∷ []) []) ≡ cond (not blank) (l ∷ []) []
-    all_one l true = refl
-    all_one l false = refl
-
-    bounded : (a b x y : ℕ) → a ≡ x → b ≡ y → a ≤ b → x ≤ y
-    bounded a b x y ax by le = omega arith
 
 -- a line may be clipped
 done_clipped : (tells : Bool) (xs : Exceptions) (line : List ℕ) (w0 w1 : World) (r0 r1 : Bool) (s0 s1 : State) → Done tells xs (clipped line ∷ []) w0 w1 r0 r1 s0 s1 → Done tells xs (line ∷ []) w0 w1 r0 r1 s0 s1
@@ -181,26 +178,27 @@ done_clipped tells xs line w0 w1 r0 r1 s0 s1 done =
       moments = λ h was. weakened s0 s1 (Leaves w0 (clipped line ∷ []) xs s0.out) (Leaves w0 (line ∷ []) xs s0.out) (done.moments h was) (leaves_clipped w0 line xs s0.out);
     }
 
-done_part_clipped : (tells : Bool) (xs : Exceptions) (line : List ℕ) (w : World) (s0 s1 : State) → DonePart tells xs (clipped line ∷ []) w s0 s1 → DonePart tells xs (line ∷ []) w s0 s1
-done_part_clipped tells xs line w s0 s1 part =
-    let outs = outcomes_same w (clipped line) line xs (is_blank_line-clipped line) (read_line-clipped line) in record {
-      out = λ h. ((part.out h).0, (part.out h).1 ∙ ap (λ (os : List Outcome). s0.out ++ take (part.out h).0 (text_of os)) outs);
-      err = part.err;
-      moments = λ h was. weakened s0 s1 (Leaves w (clipped line ∷ []) xs s0.out) (Leaves w (line ∷ []) xs s0.out) (part.moments h was) (leaves_clipped w line xs s0.out);
-    }
+done_part_clipped : (tells : Bool) (xs : Exceptions) (line : List ℕ) (k : ℕ) (w : World) (s0 s1 : State) → DonePart tells xs (clipped line ∷ []) k w s0 s1 → DonePart tells xs (line ∷ []) k w s0 s1
+done_part_clipped tells xs line k w s0 s1 part = record {
+  out = λ h. ((part.out h).0, (part.out h).1 ∙ ap (λ (t : List ℕ). s0.out ++ take (part.out h).0 t) (first_same w line xs k));
+  err = part.err;
+  moments = λ h was. weakened s0 s1 (Leaves w (clipped line ∷ []) xs s0.out) (Leaves w (line ∷ []) xs s0.out) (part.moments h was) (leaves_clipped w line xs s0.out);
+}
 
 pub does_clipped : (tells : Bool) (line : List ℕ) (st0 st1 : Store) (r0 r1 : Bool) (s0 s1 : State) → Does tells (clipped line ∷ []) st0 st1 r0 r1 s0 s1 → Does tells (line ∷ []) st0 st1 r0 r1 s0 s1
 does_clipped tells line st0 st1 r0 r1 s0 s1 does = record {
-  counts = counts_clipped line st0 st1 does.counts;
+  counts = does.counts;
   count = does.count ∙ ap (λ (n : ℕ). count_of st0 + n) (length_same line);
-  pages = let le = growth_whole line in omega (arith, does.pages, le);
+  meets = meets_whole (count_of st0) (pages_of st0) (tables_of st0) line does.counts.added (pages_of st1) (tables_of st1) does.meets;
   all = λ xs met. done_clipped tells xs line (tables_of st0) (tables_of st1) r0 r1 s0 s1 (does.all xs met);
 }
 
 pub does_part_clipped : (tells : Bool) (line : List ℕ) (st0 st1 : Store) (s0 s1 : State) → DoesPart tells (clipped line ∷ []) st0 st1 s0 s1 → DoesPart tells (line ∷ []) st0 st1 s0 s1
 does_part_clipped tells line st0 st1 s0 s1 part = record {
-  counts = counts_clipped line st0 st1 part.counts;
-  all = λ xs met. done_part_clipped tells xs line (tables_of st0) s0 s1 (part.all xs met);
+  counts = part.counts;
+  answered = part.answered;
+  meets = meets_first (count_of st0) (pages_of st0) (tables_of st0) line part.answered part.counts.added part.meets;
+  all = λ xs met. done_part_clipped tells xs line part.answered (tables_of st0) s0 s1 (part.all xs met);
 }
 
 -- whether an earlier line was refused is kept
@@ -208,7 +206,7 @@ pub does_since : (tells : Bool) (lines : List (List ℕ)) (st0 st1 : Store) (was
 does_since tells lines st0 st1 was is s0 s1 does = record {
   counts = does.counts;
   count = does.count;
-  pages = does.pages;
+  meets = does.meets;
   all = λ xs met. let done = does.all xs met in record {
     world = done.world;
     refused = ap (λ (r : Bool). was || r) done.refused;

@@ -1,23 +1,25 @@
 -- A whole run, from what is done where its input ends or it stops.
-use Rattle.std.proofs.Common.{◌≡◌, ℕ, ◌+◌, ◌^◌, ◌≤◌, Bool, false, List, [], ◌++◌, length, IsTrue, Result, Ok, Err, refl, sym, ap, subst, ◌∙◌, arith, zero-add}
+use Rattle.std.proofs.Common.{◌≡◌, ℕ, ◌+◌, ◌^◌, ◌≤◌, Bool, false, List, [], ◌++◌, length, take, IsTrue, Result, Ok, Err, refl, sym, ap, subst, ◌∙◌, arith, zero-add}
 use Rattle.std.specs.Prelude.{All, IfOk, IfErr, OnErr, OnOk}
 use Rattle.std.proofs.lemmas.List.{append-nil}
 use Rattle.aria_host.specs.State.{State}
 use Rattle.aria_model.specs.declared.refusal.Met.{Met}
 use Rattle.aria_model.specs.World.{World}
-use Rattle.aria_model.specs.Script.{Exceptions, lines_of, ended_lines, told}
+use Rattle.aria_model.specs.Script.{Exceptions, lines_of, ended_lines, statements}
 use Rattle.aria_model.specs.Journal.{met_at}
 use Rattle.aria_engine.specs.declared.store.Store.{Store}
 use Rattle.aria_engine.specs.Holds.{Holds}
-use Rattle.aria_engine.specs.Store.{count_of, pages_of, met_of, IsFresh, SameFaults, NoFewerFaults}
-use Rattle.aria_engine.specs.Done.{Does, DoesPart, AreMet, IsFull}
-use Rattle.aria_engine.proofs.Running.{running_holds, running_rests, running_settled}
+use Rattle.aria_engine.specs.Entries.{Meets}
+use Rattle.aria_engine.specs.Store.{tables_of, count_of, pages_of, met_of, IsFresh, SameFaults, NoFewerFaults}
+use Rattle.aria_engine.specs.Done.{Does, DoesPart, AreMet, IsFull, Counts as Tallies}
+use Rattle.aria_engine.proofs.Running.{running_holds, running_rests, running_settled, running_pages}
+use Rattle.aria_engine.proofs.Meeting.{meets_all, meets_full}
 use Rattle.aria_engine.proofs.Doing.{does_more, does_then_part}
 use Rattle.aria_tools.specs.declared.stop.Stop.{Stop}
 use Rattle.aria_tools.specs.Stops.{IsLineStop}
-use Rattle.aria_tools.specs.Endings.{Supply, Took}
+use Rattle.aria_tools.specs.Endings.{Supply, Took, AnswersBy}
 use Rattle.aria_tools.specs.Pieces.{Fed, IsReady}
-use Rattle.aria_tools.specs.Sessions.{LineStops, RunsOn, RunsFrom}
+use Rattle.aria_tools.specs.Sessions.{LineStops, Works, RunsOn, RunsFrom}
 use Rattle.aria_tools.proofs.Pieces.{line_stops, same_faults_more, no_fewer_more, no_fewer_same}
 
 -- the exceptions that were met in the end
@@ -34,6 +36,37 @@ part_silent to lines st0 st1 h0 h1 part told = (part.all (met_since st0 st1) (me
 pub does_silent : (to : Bool) (lines : List (List ℕ)) (st0 st1 : Store) (r0 r1 : Bool) (h0 h1 : State) → Does to lines st0 st1 r0 r1 h0 h1 → IsTrue to → h1.err ≡ h0.err
 does_silent to lines st0 st1 r0 r1 h0 h1 does told = (does.all (met_since st0 st1) (met_then st0 st1)).err told
 
+-- On a fresh store, the exceptions of the statements are those that it has noted.
+fresh_met : (st0 st1 : Store) → IsFresh st0 → AreMet (met_at st1.tally.met) (count_of st0) st1
+fresh_met st0 st1 fresh = λ k low. ap (met_of st1) (sym (zero-add k) ∙ ap (λ (n : ℕ). n + k) (sym fresh.count))
+
+fresh_meets : (st0 st1 : Store) (lines : List (List ℕ)) (last : ℕ) (left : World) → IsFresh st0 → (counts : Tallies st0 st1) → Meets (count_of st0) (pages_of st0) (tables_of st0) lines counts.added last left
+    → Meets 0 (pages_of st0) (tables_of st0) lines st1.tally.met last left
+fresh_meets st0 st1 lines last left fresh counts meets =
+    let all : counts.added ≡ st1.tally.met = sym (counts.met_is ∙ ap (λ (ms : List Met). ms ++ counts.added) fresh.met) in
+    subst (λ (n : ℕ). Meets n (pages_of st0) (tables_of st0) lines st1.tally.met last left) fresh.count
+    (subst (λ (ms : List Met). Meets (count_of st0) (pages_of st0) (tables_of st0) lines ms last left) all meets)
+
+-- what a run that stops has answered
+works_part : (to : Bool) (s0 s1 : Supply) (stop : Stop) (st0 st1 : Store) (h0 h1 : State) → IsFresh st0 → DoesPart to (lines_of s0.left) st0 st1 h0 h1
+    → (IsTrue to → AnswersBy stop s0 s1 (tables_of st0) (met_at st1.tally.met) h0 h1) → Works to s0 s1 (Err stop) st1.tally.met st0 h0 h1
+works_part to s0 s1 stop st0 st1 h0 h1 fresh part by =
+    let ran = part.all (met_at st1.tally.met) (fresh_met st0 st1 fresh) in
+    record {
+      count = part.answered;
+      meets = record {
+        within = part.meets.within;
+        last = part.meets.last;
+        left = part.meets.left;
+        meets = fresh_meets st0 st1 (take part.answered (statements (lines_of s0.left))) part.meets.last part.meets.left fresh part.counts part.meets.meets;
+      };
+      pages = λ told. tt;
+      runs = λ told alone. record {
+        answered = record { out = ran.out told; by = by told };
+        moments = ran.moments told alone;
+      };
+    }
+
 -- where a run stops
 pub stopped_on : (ti to : Bool) (s0 s1 : Supply) (r : Result Bool Stop) (st0 st1 : Store) (h0 h1 : State) (stop : Stop) → r ≡ Err stop
     → (IsTrue ti → DoesPart to (lines_of s0.left) st0 st1 h0 h1) → LineStops ti to stop s0 s1 st0 st1 h0 h1 → (IsTrue to → h1.err ≡ h0.err) → NoFewerFaults h0 h1
@@ -41,11 +74,7 @@ pub stopped_on : (ti to : Bool) (s0 s1 : Supply) (r : Result Bool Stop) (st0 st1
 stopped_on ti to s0 s1 r st0 st1 h0 h1 stop is part stops silent later = subst (λ (o : Result Bool Stop). RunsOn ti to s0 s1 o st0 st1 h0 h1) (sym is) (record {
   ends = stops.cause;
   sound = stops.sound;
-  tallies = λ h. (part h).counts;
-  runs = λ h told alone xs met. record {
-    answered = record { out = ((part h).all xs met).out told; by = stops.by h told xs met };
-    moments = ((part h).all xs met).moments told alone;
-  };
+  works = λ h fresh. works_part to s0 s1 stop st0 st1 h0 h1 fresh (part h) (λ told. stops.by h told (met_at st1.tally.met) (fresh_met st0 st1 fresh));
   silent = silent;
   later = later;
 })
@@ -62,19 +91,27 @@ finished_ok : (ti to : Bool) (s0 s1 : Supply) (st0 st2 : Store) (refused : Bool)
 finished_ok ti to s0 s1 st0 st2 refused h0 h2 does few end calm same ready now silent = record {
   ends = record { few = few; ended = end; calm = calm; same = same };
   sound = tt;
-  tallies = λ h. (does h).counts;
-  runs = λ h told alone xs met.
-      let done = (does h).all xs met in
-      let still = done.alone told alone in
+  works = λ h fresh.
+      let lines = lines_of s0.left in
+      let xs = met_at st2.tally.met in
+      let done = (does h).all xs (fresh_met st0 st2 fresh) in
+      let all = meets_all 0 (pages_of st0) (tables_of st0) (statements lines) st2.tally.met (pages_of st2) (tables_of st2)
+      (fresh_meets st0 st2 (statements lines) (pages_of st2) (tables_of st2) fresh (does h).counts (does h).meets) in
       record {
-        answered = record {
-          out = done.out told;
-          is_refused = done.refused;
-          rest = running_rests st2 h2 (ready.running told) still (now told);
-          settled = running_settled st2 h2 (ready.running told);
-          holds = subst (λ (w : World). Holds h2.folder w) done.world (running_holds st2 h2 (ready.running told) still h2.folder (now told));
+        count = length (statements lines);
+        meets = all;
+        pages = λ told. running_pages st2 h2 (ready.running told);
+        runs = λ told alone. let still = done.alone told alone in record {
+          answered = record {
+            all = refl;
+            out = done.out told;
+            is_refused = done.refused;
+            rest = running_rests st2 h2 (ready.running told) still (now told);
+            settled = running_settled st2 h2 (ready.running told);
+            holds = subst (λ (w : World). Holds h2.folder w) done.world (running_holds st2 h2 (ready.running told) still h2.folder (now told));
+          };
+          moments = done.moments told alone;
         };
-        moments = done.moments told alone;
       };
   silent = silent;
   later = no_fewer_same h0 h2 same;
@@ -108,13 +145,10 @@ pub runs_from : (ti to : Bool) (s0 s1 : Supply) (r : Result Bool Stop) (met : Li
 runs_from ti to s0 s1 r met st0 st1 h0 h1 fresh met_is runs = record {
   ends = runs.ends;
   sound = runs.sound;
-  full = λ h.
-      let tallies = runs.tallies h in
-      let all : met ≡ tallies.added = met_is ∙ tallies.met_is ∙ ap (λ (ms : List Met). ms ++ tallies.added) fresh.met in
-      subst (λ (ms : List Met). All (IsFull (lines_of s0.left) 0 (pages_of st0)) ms) (sym all)
-      (subst (λ (n : ℕ). All (IsFull (lines_of s0.left) n (pages_of st0)) tallies.added) fresh.count tallies.full);
-  runs = λ h told alone. runs.runs h told alone (met_at met) (λ k low.
-      ap (λ (ms : List Met). met_at ms k) met_is ∙ ap (met_of st1) (sym (zero-add k) ∙ ap (λ (n : ℕ). n + k) (sym fresh.count)));
+  full = λ h. let works = runs.works h fresh in
+      subst (All (IsFull (lines_of s0.left) 0 (pages_of st0))) (sym met_is)
+      (meets_full 0 (pages_of st0) (tables_of st0) (lines_of s0.left) works.count st1.tally.met works.meets);
+  works = λ h. subst (λ (ms : List Met). Works to s0 s1 r ms st0 h0 h1) (sym met_is) (runs.works h fresh);
   silent = runs.silent;
   later = runs.later;
 }

@@ -1,5 +1,5 @@
 -- How a run ends: what of the input was taken, what was told of it, what a crash may leave, and why it stopped.
-use Rattle.std.specs.Prelude.{◌≡◌, ◌≢◌, ◌⊎◌, Some, ℕ, ◌+◌, ◌-◌, ◌^◌, ◌≤◌, min, Bool, IsTrue, ◌==◌, if◌then◌else◌, List, [], ◌∷◌, ◌++◌, take, drop, length, codes, Result, Ok, Err, false, true}
+use Rattle.std.specs.Prelude.{◌≡◌, ◌≢◌, ◌⊎◌, Some, ℕ, ◌+◌, ◌-◌, ◌^◌, ◌≤◌, min, Bool, IsTrue, ◌==◌, if◌then◌else◌, List, [], ◌∷◌, ◌++◌, take, drop, length, codes, Result, Ok, Err, OnOk, false, true}
 use Rattle.aria_host.specs.Count.{Rose}
 use Rattle.aria_host.specs.State.{Folder, State, LeavesOnly}
 use Rattle.aria_host.specs.Calls.{SameImages}
@@ -7,6 +7,11 @@ use Rattle.aria_host.specs.declared.fault.Fault.{Fault}
 use Rattle.aria_host.specs.declared.fault.Fault.TheVariants as faults
 use Rattle.aria_model.specs.World.{World}
 use Rattle.aria_model.specs.Script.{Exceptions, lines_of, ended_lines, statements, world_after, after, told, told_first, any_refused, acknowledged}
+use Rattle.aria_model.specs.declared.refusal.Met.{Met}
+use Rattle.aria_model.specs.Journal.{met_at}
+use Rattle.aria_journal.specs.Front.{end_of}
+use Rattle.aria_journal.specs.Log.{log_pages}
+use Rattle.aria_engine.specs.Entries.{Meets, MeetsFirst}
 use Rattle.aria_engine.specs.Holds.{Holds, IsDamage, AtRest, IsSettled}
 use Rattle.aria_engine.specs.Store.{SameFaults}
 use Rattle.aria_engine.specs.Done.{Leaves}
@@ -89,38 +94,55 @@ AnswersBy Input supply supply_now world exceptions before now = AnswersEnded sup
 AnswersBy TooLong supply supply_now world exceptions before now = AnswersFull supply supply_now world exceptions before now
 AnswersBy _ supply supply_now world exceptions before now = Unit {0}
 
--- Each line of the input is answered; the folder is at rest and holds the tables after all of them.
-pub record AnswersAll (supply : Supply) (world : World) (exceptions : Exceptions) (refused : Bool) (before now : State) : Type 0 where
+-- Each line of the input is answered, so many statements; the folder is at rest and holds the tables after all of them.
+pub record AnswersAll (supply : Supply) (world : World) (exceptions : Exceptions) (count : ℕ) (refused : Bool) (before now : State) : Type 0 where
+  pub all : count ≡ length (statements (lines_of supply.left))
   pub out : now.out ≡ before.out ++ told world (lines_of supply.left) exceptions
   pub is_refused : refused ≡ any_refused world (lines_of supply.left) exceptions
   pub rest : AtRest now
   pub settled : IsSettled now.folder
   pub holds : Holds now.folder (world_after world (statements (lines_of supply.left)) exceptions)
 
--- A front of what the lines of the input tell was told.
-pub record AnswersPart (supply supply_now : Supply) (world : World) (exceptions : Exceptions) (stop : Stop) (before now : State) : Type 0 where
-  pub out : (n : ℕ) × (now.out ≡ before.out ++ take n (told world (lines_of supply.left) exceptions))
+-- A front of what the first so many statements of the input tell was told.
+pub record AnswersPart (supply supply_now : Supply) (world : World) (exceptions : Exceptions) (count : ℕ) (stop : Stop) (before now : State) : Type 0 where
+  pub out : (n : ℕ) × (now.out ≡ before.out ++ take n (told_first world (lines_of supply.left) exceptions count))
   pub by : AnswersBy stop supply supply_now world exceptions before now
 
 -- what a run has answered where it ends
-abbrev pub Answered : Supply → Supply → World → Exceptions → Result Bool Stop → State → State → Type 0
-Answered supply supply_now world exceptions (Ok refused) before now = AnswersAll supply world exceptions refused before now
-Answered supply supply_now world exceptions (Err stop) before now = AnswersPart supply supply_now world exceptions stop before now
+abbrev pub Answered : Supply → Supply → World → Exceptions → ℕ → Result Bool Stop → State → State → Type 0
+Answered supply supply_now world exceptions count (Ok refused) before now = AnswersAll supply world exceptions count refused before now
+Answered supply supply_now world exceptions count (Err stop) before now = AnswersPart supply supply_now world exceptions count stop before now
 
--- A run on these tables, in which these exceptions were met: what it has answered, and what a crash at any moment may have left.
-pub record Runs (supply supply_now : Supply) (world : World) (exceptions : Exceptions) (result : Result Bool Stop) (before now : State) : Type 0 where
-  pub answered : Answered supply supply_now world exceptions result before now
+-- A run on these tables, which answered so many statements that met these exceptions: what it has answered, and what a
+-- crash at any moment may have left.
+pub record Runs (supply supply_now : Supply) (world : World) (exceptions : Exceptions) (count : ℕ) (result : Result Bool Stop) (before now : State) : Type 0 where
+  pub answered : Answered supply supply_now world exceptions count result before now
   pub moments : LeavesOnly before now (Leaves world (lines_of supply.left) exceptions before.out)
 
 -- a crash leaves what one might have left as the run began, with nothing told since
 abbrev pub Began : State → Folder → List ℕ → Type 0
 Began before c b = before.may_leave c × (b ≡ before.out)
 
--- A run on a folder that read as these tables, and its opening: what it has answered, and what a crash at any moment may
--- have left.
-pub record RunsWhole (supply supply_now : Supply) (world : World) (exceptions : Exceptions) (result : Result Bool Stop) (before now : State) : Type 0 where
-  pub answered : Answered supply supply_now world exceptions result before now
-  pub moments : LeavesOnly before now (λ c b. Began before c b ⊎ Leaves world (lines_of supply.left) exceptions before.out c b)
+-- A run on a folder that read as these tables, and its opening: the statements that it answered, of which these met
+-- exceptions, what was told, and what a crash at any moment may have left.
+pub record RunsWhole (supply supply_now : Supply) (world : World) (met : List Met) (result : Result Bool Stop) (before now : State) : Type 0 where
+  pub count : ℕ
+  pub meets : MeetsFirst 0 (end_of (log_pages before.folder)) world (statements (lines_of supply.left)) count met
+  pub pages : OnOk result (meets.last ≡ length (log_pages now.folder))
+  pub answered : Answered supply supply_now world (met_at met) count result before now
+  pub moments : LeavesOnly before now (λ c b. Began before c b ⊎ Leaves world (lines_of supply.left) (met_at met) before.out c b)
+
+-- The first so many statements were answered. Of these, exactly those to which it was due met an exception, and are
+-- listed here. What was told is a part of what they tell.
+pub record MeetsDue (world : World) (lines : List (List ℕ)) (met : List Met) (before now : State) : Type 0 where
+  pub count : ℕ
+  pub meets : MeetsFirst 0 (end_of (log_pages before.folder)) world (statements lines) count met
+  pub told : (n : ℕ) × (now.out ≡ before.out ++ take n (told_first world lines (met_at met) count))
+
+-- All statements were, and the log has the pages that they left.
+abbrev pub MeetsAllDue : World → List (List ℕ) → List Met → State → State → Type 0
+MeetsAllDue world lines met before now =
+    (left : World) × Meets 0 (end_of (log_pages before.folder)) world (statements lines) met (length (log_pages now.folder)) left
 
 -- A crash leaves the tables after the first so many of the statements. What was told since is a part of what these
 -- statements tell, and acknowledges no more than them.

@@ -11,7 +11,7 @@ ghost use Rattle.aria_model.specs.Journal.{met_at};
 ghost use Rattle.aria_engine.specs.Holds.{EachHolds, EachHoldsSome, HoldsSome, ReadsAs, Holds, AtRest, IsSettled};
 ghost use Rattle.aria_engine.specs.Store.{SameFaults};
 ghost use Rattle.aria_engine.specs.Done.{IsFull};
-ghost use Rattle.aria_tools.specs.Endings.{AnswersEnded, AnswersFull, BeganOrPrefix, Counts, IsStatus, Prefix, TellsStatus};
+ghost use Rattle.aria_tools.specs.Endings.{AnswersEnded, AnswersFull, BeganOrPrefix, Counts, IsStatus, MeetsAllDue, MeetsDue, Prefix, TellsStatus};
 ghost use Rattle.aria_tools.specs.Pieces.{supply};
 ghost use Rattle.aria_tools.specs.Words.{IsRun};
 
@@ -56,13 +56,21 @@ pub fn aria<H: Host, S: Source>(
     // begins so too, however this one ends.
     ensures any_moment_held { IsTrue H.tells → IsTrue S.tells → EachHoldsSome (H.state host.old) → LeavesOnly (H.state host.old) (H.state host.new) (λ c b. HoldsSome c) }
 
-    // A statement is refused for want of room in the log only where the statements before it can have filled it.
+    // Exactly the statements are refused for want of room in the log, and listed, that begin with the log full and that a
+    // spent log refuses: each once, in their order.
+    ensures met_due { result.status ≢ 2 → IsTrue S.tells → IsTrue H.tells → (world : World) → ReadsAs (H.state host.old) world
+        → MeetsDue world (lines_of (S.left input.old)) result.met (H.state host.old) (H.state host.new) }
+    ensures done_met { result.status ≤ 1 → IsTrue S.tells → IsTrue H.tells → (world : World) → ReadsAs (H.state host.old) world
+        → MeetsAllDue world (lines_of (S.left input.old)) result.met (H.state host.old) (H.state host.new) }
+
+    // None is where the statements before it can't have filled the log.
     ensures met { IsTrue S.tells → IsTrue H.tells → All (IsFull (lines_of (S.left input.old)) 0 (page_count log_file (H.state host.old).folder)) result.met }
     ensures statuses { IsStatus result.status }
 
     // 2 comes exactly at other words, and then nothing is read, told on standard output or changed.
     ensures bad_words { (result.status ≡ 2) ↔ (¬ IsRun words.now) }
     ensures bad_words_read { result.status ≡ 2 → input.new ≡ input.old }
+    ensures bad_words_met { result.status ≡ 2 → result.met ≡ [] }
     ensures bad_words_told { result.status ≡ 2 → IsTrue H.tells → (H.state host.new).out ≡ (H.state host.old).out }
     ensures bad_words_kept { result.status ≡ 2 → IsTrue H.tells → (H.state host.new).folder ≡ (H.state host.old).folder }
 

@@ -5,7 +5,6 @@ ghost use Rattle.aria_host.specs.Folder.{page_count};
 ghost use Rattle.aria_journal.specs.Log.{log_file};
 ghost use Rattle.aria_model.specs.World.{World};
 ghost use Rattle.aria_model.specs.Script.{lines_of};
-ghost use Rattle.aria_model.specs.Journal.{met_at};
 ghost use Rattle.aria_engine.specs.Holds.{ReadsAs};
 ghost use Rattle.aria_engine.specs.Store.{NoFewerFaults, SameFaults, IsFresh};
 ghost use Rattle.aria_engine.specs.Done.{DoesPart, IsFull};
@@ -130,7 +129,7 @@ pub fn run<H: Host, S: Source>(alloc: Global, host: &mut H, input: &mut S) -> Ra
         result.outcome (H.state host.old) (H.state host.new) }
     ensures runs { IsTrue S.tells → IsTrue H.tells → (world : World) → ReadsAs (H.state host.old) world → RunsWhole
         (supply (S.left input.old) (S.taken input.old) (S.faults input.old)) (supply (S.left input.new) (S.taken input.new) (S.faults input.new))
-        world (met_at result.met) result.outcome (H.state host.old) (H.state host.new) }
+        world result.met result.outcome (H.state host.old) (H.state host.new) }
     ensures sound { IsTrue H.tells → WasSound result.outcome (H.state host.old).folder }
     ensures full { IsTrue S.tells → IsTrue H.tells → All (IsFull (lines_of (S.left input.old)) 0 (page_count log_file (H.state host.old).folder)) result.met }
     ensures silent { IsTrue H.tells → (H.state host.new).err ≡ (H.state host.old).err }

@@ -8,7 +8,7 @@ use Rattle.aria_host.proofs.Moments.{weakened}
 use Rattle.aria_engine.proofs.Opening.{each_reads, some_reads}
 use Rattle.aria_tools.specs.Endings.{Began, Prefix, BeganOrPrefix}
 use Rattle.aria_tools.specs.Pieces.{supply}
-use Rattle.aria_tools.proofs.Commands.{began_or_prefix, each_prefix, each_some, moments_after, refused_is, all_answered, ended_ok, ended_answered, full_answered, front_told, text_is, text_after, completes, sound_where, run_statuses}
+use Rattle.aria_tools.proofs.Commands.{began_or_prefix, each_prefix, each_some, moments_after, meets_due, meets_all_due, refused_is, all_answered, ended_ok, ended_answered, full_answered, front_told, text_is, text_after, completes, sound_where, run_statuses}
 use Rattle.aria_tools.proofs.command.aria.Goals as goal
 
 pub returns-clause-any_moment : goal.returns-clause-any_moment
@@ -57,7 +57,7 @@ pub returns-clause-done_refused : goal.returns-clause-done_refused
 returns-clause-done_refused g c low ti to world reads =
     refused_is (supply (g.S.Source.left c.args.input.now) (g.S.Source.taken c.args.input.now) (g.S.Source.faults c.args.input.now))
     (supply (g.S.Source.left c.run-ran.new.input) (g.S.Source.taken c.run-ran.new.input) (g.S.Source.faults c.run-ran.new.input))
-    world (met_at c.run-ran.result.met) c.run-ran.result.outcome c.end.result (g.H.Host.state c.args.host.now) (g.H.Host.state c.run-ran.new.host)
+    world c.run-ran.result.met c.run-ran.result.outcome c.end.result (g.H.Host.state c.args.host.now) (g.H.Host.state c.run-ran.new.host)
     c.end.ensures.status low (c.run-ran.ensures.runs ti to world reads)
 
 pub returns-clause-done_told : goal.returns-clause-done_told
@@ -65,7 +65,7 @@ returns-clause-done_told g c low ti to world reads =
     let ok = ended_ok c.run-ran.result.outcome c.end.result c.end.ensures.status low in
     let all = all_answered (supply (g.S.Source.left c.args.input.now) (g.S.Source.taken c.args.input.now) (g.S.Source.faults c.args.input.now))
     (supply (g.S.Source.left c.run-ran.new.input) (g.S.Source.taken c.run-ran.new.input) (g.S.Source.faults c.run-ran.new.input))
-    world (met_at c.run-ran.result.met) c.run-ran.result.outcome ok.0 (g.H.Host.state c.args.host.now) (g.H.Host.state c.run-ran.new.host) ok.1 (c.run-ran.ensures.runs ti to world reads) in
+    world c.run-ran.result.met c.run-ran.result.outcome ok.0 (g.H.Host.state c.args.host.now) (g.H.Host.state c.run-ran.new.host) ok.1 (c.run-ran.ensures.runs ti to world reads) in
     (c.end.ensures.only to).out ∙ all.out
 
 pub returns-clause-done_holds : goal.returns-clause-done_holds
@@ -73,7 +73,7 @@ returns-clause-done_holds g c low ti to world reads =
     let ok = ended_ok c.run-ran.result.outcome c.end.result c.end.ensures.status low in
     let all = all_answered (supply (g.S.Source.left c.args.input.now) (g.S.Source.taken c.args.input.now) (g.S.Source.faults c.args.input.now))
     (supply (g.S.Source.left c.run-ran.new.input) (g.S.Source.taken c.run-ran.new.input) (g.S.Source.faults c.run-ran.new.input))
-    world (met_at c.run-ran.result.met) c.run-ran.result.outcome ok.0 (g.H.Host.state c.args.host.now) (g.H.Host.state c.run-ran.new.host) ok.1 (c.run-ran.ensures.runs ti to world reads) in
+    world c.run-ran.result.met c.run-ran.result.outcome ok.0 (g.H.Host.state c.args.host.now) (g.H.Host.state c.run-ran.new.host) ok.1 (c.run-ran.ensures.runs ti to world reads) in
     let same = (c.end.ensures.only to).folder in
     subst (λ (f : Folder). Holds f (world_after world (statements (lines_of (g.S.Source.left c.args.input.now))) (met_at c.run-ran.result.met))) (sym same) all.holds
 
@@ -81,14 +81,14 @@ pub returns-clause-input_fault_told : goal.returns-clause-input_fault_told
 returns-clause-input_fault_told g c six ti to world reads =
     ended_answered (supply (g.S.Source.left c.args.input.now) (g.S.Source.taken c.args.input.now) (g.S.Source.faults c.args.input.now))
     (supply (g.S.Source.left c.run-ran.new.input) (g.S.Source.taken c.run-ran.new.input) (g.S.Source.faults c.run-ran.new.input))
-    world (met_at c.run-ran.result.met) c.run-ran.result.outcome c.end.result (g.H.Host.state c.args.host.now) (g.H.Host.state c.run-ran.new.host) (g.H.Host.state c.end.new.host)
+    world c.run-ran.result.met c.run-ran.result.outcome c.end.result (g.H.Host.state c.args.host.now) (g.H.Host.state c.run-ran.new.host) (g.H.Host.state c.end.new.host)
     c.end.ensures.status six (c.run-ran.ensures.runs ti to world reads) (c.end.ensures.only to).out
 
 pub returns-clause-too_long_told : goal.returns-clause-too_long_told
 returns-clause-too_long_told g c eight ti to world reads =
     full_answered (supply (g.S.Source.left c.args.input.now) (g.S.Source.taken c.args.input.now) (g.S.Source.faults c.args.input.now))
     (supply (g.S.Source.left c.run-ran.new.input) (g.S.Source.taken c.run-ran.new.input) (g.S.Source.faults c.run-ran.new.input))
-    world (met_at c.run-ran.result.met) c.run-ran.result.outcome c.end.result (g.H.Host.state c.args.host.now) (g.H.Host.state c.run-ran.new.host) (g.H.Host.state c.end.new.host)
+    world c.run-ran.result.met c.run-ran.result.outcome c.end.result (g.H.Host.state c.args.host.now) (g.H.Host.state c.run-ran.new.host) (g.H.Host.state c.end.new.host)
     c.end.ensures.status eight (c.run-ran.ensures.runs ti to world reads) (c.end.ensures.only to).out
 
 pub returns-clause-error_text : goal.returns-clause-error_text
@@ -108,14 +108,14 @@ pub returns-clause-part_told : goal.returns-clause-part_told
 returns-clause-part_told g c not_2 ti to world reads =
     let front = front_told (supply (g.S.Source.left c.args.input.now) (g.S.Source.taken c.args.input.now) (g.S.Source.faults c.args.input.now))
     (supply (g.S.Source.left c.run-ran.new.input) (g.S.Source.taken c.run-ran.new.input) (g.S.Source.faults c.run-ran.new.input))
-    world (met_at c.run-ran.result.met) c.run-ran.result.outcome (g.H.Host.state c.args.host.now) (g.H.Host.state c.run-ran.new.host) (c.run-ran.ensures.runs ti to world reads) in
+    world c.run-ran.result.met c.run-ran.result.outcome (g.H.Host.state c.args.host.now) (g.H.Host.state c.run-ran.new.host) (c.run-ran.ensures.runs ti to world reads) in
     (front.0, (c.end.ensures.only to).out ∙ front.1)
 
 pub returns-clause-complete : goal.returns-clause-complete
 returns-clause-complete g c run ti to world reads short disk tell input =
     completes g.H.Host.tells g.S.Source.tells (supply (g.S.Source.left c.args.input.now) (g.S.Source.taken c.args.input.now) (g.S.Source.faults c.args.input.now))
     (supply (g.S.Source.left c.run-ran.new.input) (g.S.Source.taken c.run-ran.new.input) (g.S.Source.faults c.run-ran.new.input))
-    world (met_at c.run-ran.result.met) c.run-ran.result.outcome c.end.result
+    world c.run-ran.result.met c.run-ran.result.outcome c.end.result
     (g.H.Host.state c.args.host.now) (g.H.Host.state c.run-ran.new.host) (g.H.Host.state c.end.new.host) to
     reads.holds
     c.run-ran.ensures.ends (c.run-ran.ensures.runs ti to world reads) c.end.ensures.status short disk tell input
@@ -130,3 +130,17 @@ returns-clause-statuses g c =
     run_statuses g.S.Source.tells g.H.Host.tells (supply (g.S.Source.left c.args.input.now) (g.S.Source.taken c.args.input.now) (g.S.Source.faults c.args.input.now))
     (supply (g.S.Source.left c.run-ran.new.input) (g.S.Source.taken c.run-ran.new.input) (g.S.Source.faults c.run-ran.new.input))
     c.run-ran.result.outcome c.end.result (g.H.Host.state c.args.host.now) (g.H.Host.state c.run-ran.new.host) c.run-ran.ensures.ends c.end.ensures.status
+
+pub returns-clause-met_due : goal.returns-clause-met_due
+returns-clause-met_due g c not_2 ti to world reads =
+    meets_due (supply (g.S.Source.left c.args.input.now) (g.S.Source.taken c.args.input.now) (g.S.Source.faults c.args.input.now))
+    (supply (g.S.Source.left c.run-ran.new.input) (g.S.Source.taken c.run-ran.new.input) (g.S.Source.faults c.run-ran.new.input))
+    world c.run-ran.result.met c.run-ran.result.outcome (g.H.Host.state c.args.host.now) (g.H.Host.state c.run-ran.new.host) (g.H.Host.state c.end.new.host)
+    (c.run-ran.ensures.runs ti to world reads) (c.end.ensures.only to).out
+
+pub returns-clause-done_met : goal.returns-clause-done_met
+returns-clause-done_met g c low ti to world reads =
+    meets_all_due (supply (g.S.Source.left c.args.input.now) (g.S.Source.taken c.args.input.now) (g.S.Source.faults c.args.input.now))
+    (supply (g.S.Source.left c.run-ran.new.input) (g.S.Source.taken c.run-ran.new.input) (g.S.Source.faults c.run-ran.new.input))
+    world c.run-ran.result.met c.run-ran.result.outcome c.end.result (g.H.Host.state c.args.host.now) (g.H.Host.state c.run-ran.new.host) (g.H.Host.state c.end.new.host)
+    c.end.ensures.status low (c.run-ran.ensures.runs ti to world reads) (c.end.ensures.only to).folder

@@ -23,9 +23,9 @@ returns-in-Ok-clause-runs g c ti to world reads =
     let old = g.H.Host.state c.args.host.now in
     let mid = g.H.Host.state c.open.new.host in
     let is = holds_one old.folder (tables_of c.in-Ok.store) world (c.in-Ok.ensures.holds to) reads.holds in
-    runs_after supply0 supply1 world (tables_of c.in-Ok.store) (met_at c.run_store.result.met) c.run_store.result.outcome old mid (g.H.Host.state c.run_store.new.host)
-    is (c.in-Ok.ensures.silent to).out ((c.in-Ok.ensures.opens to).moments world reads)
-    (c.run_store.ensures.runs.runs ti to (λ f leaves. ((c.in-Ok.ensures.opens to).each world reads refl f leaves).alone))
+    runs_after g.H.Host.tells supply0 supply1 world c.in-Ok.store c.run_store.result.met c.run_store.result.outcome old mid (g.H.Host.state c.run_store.new.host)
+    is (c.in-Ok.ensures.ends to) (c.in-Ok.ensures.silent to).out ((c.in-Ok.ensures.opens to).moments world reads)
+    to (λ f leaves. ((c.in-Ok.ensures.opens to).each world reads refl f leaves).alone) (c.run_store.ensures.runs.works ti)
 
 pub returns-in-Ok-clause-sound : goal.returns-in-Ok-clause-sound
 returns-in-Ok-clause-sound g c to = was_sound c.run_store.result.outcome (g.H.Host.state c.args.host.now).folder (tables_of c.in-Ok.store) (c.in-Ok.ensures.holds to)
@@ -35,7 +35,7 @@ returns-in-Err-clause-runs g c ti to world reads =
     let supply0 = supply (g.S.Source.left c.args.input.now) (g.S.Source.taken c.args.input.now) (g.S.Source.faults c.args.input.now) in
     let old = g.H.Host.state c.args.host.now in
     let now = g.H.Host.state c.open.new.host in
-    let xs = met_at c.new.result in
-    subst (λ (stop : Stop). RunsWhole supply0 supply0 world xs (Err stop) old now) (sym c.from.ensures)
-    (runs_never supply0 supply0 world xs (stop_of c.in-Err.fault) old now (c.in-Err.ensures.silent to).out
-    (opening_answers g.H.Host.tells c.in-Err.fault supply0 supply0 world xs old now c.in-Err.ensures.cause) ((c.in-Err.ensures.opens to).moments world reads))
+    let met = c.new.result in
+    subst (λ (stop : Stop). RunsWhole supply0 supply0 world met (Err stop) old now) (sym c.from.ensures)
+    (runs_never supply0 supply0 world met (stop_of c.in-Err.fault) old now c.new.ensures (c.in-Err.ensures.silent to).out
+    (opening_answers g.H.Host.tells c.in-Err.fault supply0 supply0 world (met_at met) old now c.in-Err.ensures.cause) ((c.in-Err.ensures.opens to).moments world reads))

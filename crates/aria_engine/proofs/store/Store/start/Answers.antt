@@ -1,5 +1,9 @@
-use Rattle.aria_engine.proofs.Settling.{started_keeps, recovered_pages}
+use Rattle.aria_engine.proofs.Settling.{started_keeps, recovered_pages, recovered_ends}
 use Rattle.aria_engine.proofs.store.Store.start.Goals as goal
+
+pub returns-clause-ends : goal.returns-clause-ends
+returns-clause-ends g c = λ told.
+    recovered_ends c.args.self.now.log c.start.new.self (g.H.Host.state c.args.host.now).folder (c.requires.recovered told).opened c.start.ensures.place
 
 pub returns-clause-pages : goal.returns-clause-pages
 returns-clause-pages g c = λ told.

@@ -16,7 +16,7 @@ log_before line before now refused changed s running t = subst (λ (l : LogValue
 
 pub returns-in-Err-clause-part : goal.returns-in-Err-clause-part
 returns-in-Err-clause-part g c =
-    does_noted g.H.Host.tells (c.args.line.now ∷ []) c.args.self.now c.take.new.self (g.H.Host.state c.args.host.now) c.take.ensures.noted
+    does_noted g.H.Host.tells c.args.line.now c.args.self.now c.take.new.self (g.H.Host.state c.args.host.now) c.take.ensures.noted
     (λ tells alone f b since. let now = g.met.H.Host.only_now c.args.host.now f b tells since in
     (now.1, running_holds c.args.self.now (g.H.Host.state c.args.host.now) (c.requires.running tells) alone f now.0))
 
@@ -36,7 +36,7 @@ returns-in_ok-complete-in-Ok-Some-clause-done g c =
     let t : Turned line c.args.self.now now turn.refused turn.changed = rw c.in-Ok-Some.field-0-is at c.in-Ok-Some.ensures.turned in
     let final : Store = record now { log = c.complete.new.log } in
     subst (λ (b : Bool). Does g.H.Host.tells (line ∷ []) c.args.self.now final false b s0 s1) (sym c.of_statement.ensures.refused)
-    (does_turned g.H.Host.tells line c.args.self.now now final turn.refused turn.changed s0 s1 t refl refl c.in_ok-complete-in-Ok-Some.ensures.pages
+    (does_turned g.H.Host.tells line c.args.self.now now final turn.refused turn.changed s0 s1 t refl refl c.in_ok-complete-in-Ok-Some.ensures.grows c.in_ok-complete-in-Ok-Some.ensures.pages
     (λ h. c.requires.running h)
     (λ h. let running = c.requires.running h in
     subst (λ (text : List ℕ). Completes running.lines (with_line turn.changed running.lines line) text c.complete.new.log s0 s1 true) c.as_slice.ensures
