@@ -81,6 +81,7 @@ done_all tells xs a w0 w1 r0 r1 s0 s1 done = record {
 -- no line is done
 pub does_nothing : (tells : Bool) (st : Store) (was : Bool) (s : State) → HoldsNow tells st s → Does tells [] st st was was s s
 does_nothing tells st was s here = record {
+  added = [];
   counts = counts_same st st refl;
   count = omega arith;
   meets = meets_none (count_of st) (pages_of st) (tables_of st);
@@ -98,48 +99,53 @@ does_nothing tells st was s here = record {
 pub does_more : (tells : Bool) (a b : List (List ℕ)) (st0 st1 st2 : Store) (r0 r1 r2 : Bool) (s0 s1 s2 : State)
     → Does tells a st0 st1 r0 r1 s0 s1 → Does tells b st1 st2 r1 r2 s1 s2 → Does tells (a ++ b) st0 st2 r0 r2 s0 s2
 does_more tells a b st0 st1 st2 r0 r1 r2 s0 s1 s2 first then = record {
-  counts = counts_more st0 st1 st2 first.counts then.counts;
+  added = first.added ++ then.added;
+  counts = counts_more st0 st1 st2 first.added then.added first.counts then.counts;
   count = then.count ∙ ap (λ (n : ℕ). n + length (statements b)) first.count ∙ add_assoc (count_of st0) (length (statements a)) (length (statements b)) ∙ ap (λ (n : ℕ). count_of st0 + n) (sym (length-statements a b));
-  meets = subst (λ (ls : List (List ℕ)). Meets (count_of st0) (pages_of st0) (tables_of st0) ls (first.counts.added ++ then.counts.added) (pages_of st2) (tables_of st2)) (sym (statements-append a b))
-      (meets_then (count_of st0) (pages_of st0) (tables_of st0) (statements a) (statements b) first.counts.added then.counts.added (pages_of st1) (pages_of st2) (tables_of st1) (tables_of st2) first.meets
-      (subst (λ (n : ℕ). Meets n (pages_of st1) (tables_of st1) (statements b) then.counts.added (pages_of st2) (tables_of st2)) first.count then.meets));
+  meets = subst (λ (ls : List (List ℕ)). Meets (count_of st0) (pages_of st0) (tables_of st0) ls (first.added ++ then.added) (pages_of st2) (tables_of st2)) (sym (statements-append a b))
+      (meets_then (count_of st0) (pages_of st0) (tables_of st0) (statements a) (statements b) first.added then.added (pages_of st1) (pages_of st2) (tables_of st1) (tables_of st2) first.meets
+      (subst (λ (n : ℕ). Meets n (pages_of st1) (tables_of st1) (statements b) then.added (pages_of st2) (tables_of st2)) first.count then.meets));
   all = λ xs met. done_more tells xs a b (tables_of st0) (tables_of st1) (tables_of st2) r0 r1 r2 s0 s1 s2
-      (first.all xs (are_met_front xs (count_of st0) st1 st2 then.counts met))
+      (first.all xs (are_met_front xs (count_of st0) st1 st2 then.added then.counts met))
       (then.all (from_nth xs (length (statements a))) (are_met_behind xs (count_of st0) (length (statements a)) st1 st2 first.count met));
 }
 
 pub does_then_part : (tells : Bool) (a b : List (List ℕ)) (st0 st1 st2 : Store) (r0 r1 : Bool) (s0 s1 s2 : State)
     → Does tells a st0 st1 r0 r1 s0 s1 → DoesPart tells b st1 st2 s1 s2 → DoesPart tells (a ++ b) st0 st2 s0 s2
 does_then_part tells a b st0 st1 st2 r0 r1 s0 s1 s2 first part = record {
-  counts = counts_more st0 st1 st2 first.counts part.counts;
+  added = first.added ++ part.added;
+  counts = counts_more st0 st1 st2 first.added part.added first.counts part.counts;
   answered = length (statements a) + part.answered;
-  meets = meets_behind (count_of st0) (pages_of st0) (tables_of st0) a b part.answered first.counts.added part.counts.added (count_of st1) (pages_of st1) (tables_of st1) first.count first.meets part.meets;
+  meets = meets_behind (count_of st0) (pages_of st0) (tables_of st0) a b part.answered first.added part.added (count_of st1) (pages_of st1) (tables_of st1) first.count first.meets part.meets;
   all = λ xs met. done_then_part tells xs a b part.answered (tables_of st0) (tables_of st1) r0 r1 s0 s1 s2
-      (first.all xs (are_met_front xs (count_of st0) st1 st2 part.counts met))
+      (first.all xs (are_met_front xs (count_of st0) st1 st2 part.added part.counts met))
       (part.all (from_nth xs (length (statements a))) (are_met_behind xs (count_of st0) (length (statements a)) st1 st2 first.count met));
 }
 
 -- what was told goes on to be a front
 pub does_part_more : (tells : Bool) (a b : List (List ℕ)) (st0 st1 : Store) (s0 s1 : State) → DoesPart tells a st0 st1 s0 s1 → DoesPart tells (a ++ b) st0 st1 s0 s1
 does_part_more tells a b st0 st1 s0 s1 part = record {
+  added = part.added;
   counts = part.counts;
   answered = part.answered;
-  meets = meets_front (count_of st0) (pages_of st0) (tables_of st0) a b part.answered part.counts.added part.meets;
+  meets = meets_front (count_of st0) (pages_of st0) (tables_of st0) a b part.answered part.added part.meets;
   all = λ xs met. done_part_more tells xs a b part.answered (tables_of st0) s0 s1 part.meets.within (part.all xs met);
 }
 
 -- all of it is a front
 pub does_part : (tells : Bool) (a : List (List ℕ)) (st0 st1 : Store) (r0 r1 : Bool) (s0 s1 : State) → Does tells a st0 st1 r0 r1 s0 s1 → DoesPart tells a st0 st1 s0 s1
 does_part tells a st0 st1 r0 r1 s0 s1 does = record {
+  added = does.added;
   counts = does.counts;
   answered = length (statements a);
-  meets = meets_all (count_of st0) (pages_of st0) (tables_of st0) (statements a) does.counts.added (pages_of st1) (tables_of st1) does.meets;
+  meets = meets_all (count_of st0) (pages_of st0) (tables_of st0) (statements a) does.added (pages_of st1) (tables_of st1) does.meets;
   all = λ xs met. done_all tells xs a (tables_of st0) (tables_of st1) r0 r1 s0 s1 (does.all xs met);
 }
 
 -- nothing was done
 pub does_none : (tells : Bool) (a : List (List ℕ)) (before now : Store) (s : State) → now.tally ≡ before.tally → HoldsNow tells before s → DoesPart tells a before now s s
 does_none tells a before now s same here = record {
+  added = [];
   counts = counts_same before now same;
   answered = 0;
   meets = meets_no_first (count_of before) (pages_of before) (tables_of before) (statements a);

@@ -62,20 +62,18 @@ entry_before count k mets None low = ap (λ (ms : List Met). met_at ms k) (appen
 entry_before count k mets (Some why) low = met_at-other mets (record { nth = count; why = why }) k (λ (e : count ≡ k). omega arith)
 
 -- a statement was counted, and its exception noted
-counts_noted : (before now : Store) (x : Option Exception) → Notes before.tally now.tally x → Counts before now
+counts_noted : (before now : Store) (x : Option Exception) → Notes before.tally now.tally x → Counts before now (entry (count_of before) x)
 counts_noted before now x notes = record {
   later = omega (arith, notes.count);
   kept = λ k low. ap (λ (ms : List Met). met_at ms k) notes.met ∙ entry_before (count_of before) k before.tally.met x low;
-  added = entry (count_of before) x;
   met_is = notes.met;
 }
 
 -- nothing was noted, and a statement was counted or not
-counts_kept : (before now : Store) → count_of before ≤ count_of now → now.tally.met ≡ before.tally.met → Counts before now
+counts_kept : (before now : Store) → count_of before ≤ count_of now → now.tally.met ≡ before.tally.met → Counts before now []
 counts_kept before now later met = record {
   later = later;
   kept = λ k low. ap (λ (ms : List Met). met_at ms k) met;
-  added = [];
   met_is = met ∙ sym (append-nil before.tally.met);
 }
 
@@ -111,6 +109,7 @@ does_noted tells line before now s noted here =
     ⊎_elim unnoted (λ (notes : Notes before.tally now.tally x). elim (cases_Bool (is_blank_line line)) [
       | inl blank ↦ unnoted (notes.met ∙ ap (λ (y : Option Exception). before.tally.met ++ entry (count_of before) y) (blank_due (tables_of before) line (pages_of before) blank) ∙ append-nil before.tally.met)
       | inr some ↦ record {
+          added = entry (count_of before) x;
           counts = counts_noted before now x notes;
           answered = 1;
           meets = meets_first_line line before x some refl;
@@ -123,6 +122,7 @@ does_noted tells line before now s noted here =
 
     unnoted : now.tally.met ≡ before.tally.met → DoesPart tells (line ∷ []) before now s s
     unnoted met = record {
+      added = [];
       counts = counts_kept before now noted.later met;
       answered = 0;
       meets = meets_no_first (count_of before) (pages_of before) (tables_of before) (statements (line ∷ []));
@@ -138,6 +138,7 @@ does_blank tells line before now s passed here =
     let pages : pages_of now ≡ pages_of before = ap file_pages passed.log in
     let size : length (statements (line ∷ [])) ≡ 0 = ap length none in
     record {
+      added = [];
       counts = counts_same before now passed.tally;
       count = omega (arith, count, size);
       meets = subst (λ (ls : List (List ℕ)). Meets (count_of before) (pages_of before) (tables_of before) ls [] (pages_of now) (tables_of now)) (sym none) (refl, pages, passed.world);
@@ -264,6 +265,7 @@ does_turned tells line before now final refused changed s0 s1 t same tables rise
     let count : count_of final ≡ count_of before + 1 = ap (λ (y : Tally). y.count) same ∙ t.notes.count in
     let was : file_pages now.log ≡ pages_of before = ap file_pages t.log in
     record {
+      added = entry (count_of before) t.exception;
       counts = counts_noted before final t.exception (record { count = count; met = ap (λ (y : Tally). y.met) same ∙ t.notes.met });
       count = omega (arith, count, size);
       meets = meets_line line before t.exception (pages_of final) (tables_of final) t.some t.is_due (omega (arith, rises, was)) (omega (arith, pages, was)) (tables ∙ t.world);
@@ -292,6 +294,7 @@ pub does_part_turned : (tells : Bool) (line : List ℕ) (before now final : Stor
 does_part_turned tells line before now final refused changed s0 s1 t same running completes =
     let count : count_of final ≡ count_of before + 1 = ap (λ (y : Tally). y.count) same ∙ t.notes.count in
     record {
+      added = entry (count_of before) t.exception;
       counts = counts_noted before final t.exception (record { count = count; met = ap (λ (y : Tally). y.met) same ∙ t.notes.met });
       answered = 1;
       meets = meets_first_line line before t.exception t.some t.is_due;

@@ -52,23 +52,24 @@ pub record IsFull (lines : List (List ℕ)) (since pages : ℕ) (met : Met) : Ty
   pub since_then : since ≤ met.nth
   pub pages_are : 524000 ≤ pages + growth (take (met.nth - since) (statements lines))
 
--- More statements were counted, and no exception that was met is forgotten.
-pub record Counts (before now : Store) : Type 0 where
+-- More statements were counted; these entries were added, and no exception that was met is forgotten.
+pub record Counts (before now : Store) (added : List Met) : Type 0 where
   pub later : count_of before ≤ count_of now
   pub kept : (k : ℕ) → k < count_of before → met_of now k ≡ met_of before k
-  pub added : List Met
   pub met_is : now.tally.met ≡ before.tally.met ++ added
 
 -- The store has done the lines.
 pub record Does (tells : Bool) (lines : List (List ℕ)) (before now : Store) (was is : Bool) (s0 s1 : State) : Type 0 where
-  pub counts : Counts before now
+  pub added : List Met
+  pub counts : Counts before now added
   pub count : count_of now ≡ count_of before + length (statements lines)
-  pub meets : Meets (count_of before) (pages_of before) (tables_of before) (statements lines) counts.added (pages_of now) (tables_of now)
+  pub meets : Meets (count_of before) (pages_of before) (tables_of before) (statements lines) added (pages_of now) (tables_of now)
   pub all : (exceptions : Exceptions) → AreMet exceptions (count_of before) now → Done tells exceptions lines (tables_of before) (tables_of now) was is s0 s1
 
 -- The store has stopped. It has answered the first so many of the lines' statements, the last of them perhaps in part.
 pub record DoesPart (tells : Bool) (lines : List (List ℕ)) (before now : Store) (s0 s1 : State) : Type 0 where
-  pub counts : Counts before now
+  pub added : List Met
+  pub counts : Counts before now added
   pub answered : ℕ
-  pub meets : MeetsFirst (count_of before) (pages_of before) (tables_of before) (statements lines) answered counts.added
+  pub meets : MeetsFirst (count_of before) (pages_of before) (tables_of before) (statements lines) answered added
   pub all : (exceptions : Exceptions) → AreMet exceptions (count_of before) now → DonePart tells exceptions lines answered (tables_of before) s0 s1

@@ -291,7 +291,7 @@ meets_all_due s0 s1 w met r status h h0 h1 end low runs same =
     let all = all_answered s0 s1 w met r ok.0 h h0 ok.1 runs in
     let lines = statements (lines_of s0.left) in
     let whole : take runs.count lines ≡ lines = ap (λ (n : ℕ). take n lines) all.all ∙ take-length lines in
-    let pages : OnOk (Ok {E = Stop} ok.0) (runs.meets.last ≡ length (log_pages h0.folder)) = subst (λ (o : Result Bool Stop). OnOk o (runs.meets.last ≡ length (log_pages h0.folder))) ok.1 runs.pages in
+    let pages : runs.meets.last ≡ length (log_pages h0.folder) = subst (λ (o : Result Bool Stop). OnOk o (runs.meets.last ≡ length (log_pages h0.folder))) ok.1 runs.pages in
     let last : runs.meets.last ≡ length (log_pages h1.folder) = pages ∙ ap (λ (f : Folder). length (log_pages f)) (sym same) in (
       runs.meets.left,
       subst (λ (n : ℕ). Meets 0 (end_of (log_pages h.folder)) w lines met n runs.meets.left) last

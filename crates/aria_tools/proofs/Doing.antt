@@ -119,7 +119,7 @@ due_same pages w a b read = ap (λ (r : Result (Option Statement) Refusal). cond
 
 meets_same : (nth pages : ℕ) (w : World) (a b : List ℕ) (ms : List Met) (last : ℕ) (left : World) → length a ≤ length b → read_line a ≡ read_line b
     → Meets nth pages w (a ∷ []) ms last left → Meets nth pages w (b ∷ []) ms last left
-meets_same nth pages w a b ms last left low read (next, more, rises, within, is, none, same, world) = (
+meets_same nth pages w a b ms last left low read (next, more, rises, within, is, (none, same, world)) = (
   next,
   more,
   rises,
@@ -187,23 +187,26 @@ done_part_clipped tells xs line k w s0 s1 part = record {
 
 pub does_clipped : (tells : Bool) (line : List ℕ) (st0 st1 : Store) (r0 r1 : Bool) (s0 s1 : State) → Does tells (clipped line ∷ []) st0 st1 r0 r1 s0 s1 → Does tells (line ∷ []) st0 st1 r0 r1 s0 s1
 does_clipped tells line st0 st1 r0 r1 s0 s1 does = record {
+  added = does.added;
   counts = does.counts;
   count = does.count ∙ ap (λ (n : ℕ). count_of st0 + n) (length_same line);
-  meets = meets_whole (count_of st0) (pages_of st0) (tables_of st0) line does.counts.added (pages_of st1) (tables_of st1) does.meets;
+  meets = meets_whole (count_of st0) (pages_of st0) (tables_of st0) line does.added (pages_of st1) (tables_of st1) does.meets;
   all = λ xs met. done_clipped tells xs line (tables_of st0) (tables_of st1) r0 r1 s0 s1 (does.all xs met);
 }
 
 pub does_part_clipped : (tells : Bool) (line : List ℕ) (st0 st1 : Store) (s0 s1 : State) → DoesPart tells (clipped line ∷ []) st0 st1 s0 s1 → DoesPart tells (line ∷ []) st0 st1 s0 s1
 does_part_clipped tells line st0 st1 s0 s1 part = record {
+  added = part.added;
   counts = part.counts;
   answered = part.answered;
-  meets = meets_first (count_of st0) (pages_of st0) (tables_of st0) line part.answered part.counts.added part.meets;
+  meets = meets_first (count_of st0) (pages_of st0) (tables_of st0) line part.answered part.added part.meets;
   all = λ xs met. done_part_clipped tells xs line part.answered (tables_of st0) s0 s1 (part.all xs met);
 }
 
 -- whether an earlier line was refused is kept
 pub does_since : (tells : Bool) (lines : List (List ℕ)) (st0 st1 : Store) (was is : Bool) (s0 s1 : State) → Does tells lines st0 st1 false is s0 s1 → Does tells lines st0 st1 was (was || is) s0 s1
 does_since tells lines st0 st1 was is s0 s1 does = record {
+  added = does.added;
   counts = does.counts;
   count = does.count;
   meets = does.meets;

@@ -13,7 +13,8 @@ use Rattle.aria_engine.specs.Entries.{Meets}
 use Rattle.aria_engine.specs.Store.{tables_of, count_of, pages_of, met_of, IsFresh, SameFaults, NoFewerFaults}
 use Rattle.aria_engine.specs.Done.{Does, DoesPart, AreMet, IsFull, Counts as Tallies}
 use Rattle.aria_engine.proofs.Running.{running_holds, running_rests, running_settled, running_pages}
-use Rattle.aria_engine.proofs.Meeting.{meets_all, meets_full}
+use Rattle.std.proofs.Math.Seq.{take-length}
+use Rattle.aria_engine.proofs.Meeting.{meets_full}
 use Rattle.aria_engine.proofs.Doing.{does_more, does_then_part}
 use Rattle.aria_tools.specs.declared.stop.Stop.{Stop}
 use Rattle.aria_tools.specs.Stops.{IsLineStop}
@@ -40,10 +41,10 @@ does_silent to lines st0 st1 r0 r1 h0 h1 does told = (does.all (met_since st0 st
 fresh_met : (st0 st1 : Store) → IsFresh st0 → AreMet (met_at st1.tally.met) (count_of st0) st1
 fresh_met st0 st1 fresh = λ k low. ap (met_of st1) (sym (zero-add k) ∙ ap (λ (n : ℕ). n + k) (sym fresh.count))
 
-fresh_meets : (st0 st1 : Store) (lines : List (List ℕ)) (last : ℕ) (left : World) → IsFresh st0 → (counts : Tallies st0 st1) → Meets (count_of st0) (pages_of st0) (tables_of st0) lines counts.added last left
+fresh_meets : (st0 st1 : Store) (lines : List (List ℕ)) (added : List Met) (last : ℕ) (left : World) → IsFresh st0 → Tallies st0 st1 added → Meets (count_of st0) (pages_of st0) (tables_of st0) lines added last left
     → Meets 0 (pages_of st0) (tables_of st0) lines st1.tally.met last left
-fresh_meets st0 st1 lines last left fresh counts meets =
-    let all : counts.added ≡ st1.tally.met = sym (counts.met_is ∙ ap (λ (ms : List Met). ms ++ counts.added) fresh.met) in
+fresh_meets st0 st1 lines added last left fresh counts meets =
+    let all : added ≡ st1.tally.met = sym (counts.met_is ∙ ap (λ (ms : List Met). ms ++ added) fresh.met) in
     subst (λ (n : ℕ). Meets n (pages_of st0) (tables_of st0) lines st1.tally.met last left) fresh.count
     (subst (λ (ms : List Met). Meets (count_of st0) (pages_of st0) (tables_of st0) lines ms last left) all meets)
 
@@ -58,7 +59,7 @@ works_part to s0 s1 stop st0 st1 h0 h1 fresh part by =
         within = part.meets.within;
         last = part.meets.last;
         left = part.meets.left;
-        meets = fresh_meets st0 st1 (take part.answered (statements (lines_of s0.left))) part.meets.last part.meets.left fresh part.counts part.meets.meets;
+        meets = fresh_meets st0 st1 (take part.answered (statements (lines_of s0.left))) part.added part.meets.last part.meets.left fresh part.counts part.meets.meets;
       };
       pages = λ told. tt;
       runs = λ told alone. record {
@@ -95,11 +96,15 @@ finished_ok ti to s0 s1 st0 st2 refused h0 h2 does few end calm same ready now s
       let lines = lines_of s0.left in
       let xs = met_at st2.tally.met in
       let done = (does h).all xs (fresh_met st0 st2 fresh) in
-      let all = meets_all 0 (pages_of st0) (tables_of st0) (statements lines) st2.tally.met (pages_of st2) (tables_of st2)
-      (fresh_meets st0 st2 (statements lines) (pages_of st2) (tables_of st2) fresh (does h).counts (does h).meets) in
       record {
         count = length (statements lines);
-        meets = all;
+        meets = record {
+          within = omega arith;
+          last = pages_of st2;
+          left = tables_of st2;
+          meets = subst (λ (ls : List (List ℕ)). Meets 0 (pages_of st0) (tables_of st0) ls st2.tally.met (pages_of st2) (tables_of st2)) (sym (take-length (statements lines)))
+              (fresh_meets st0 st2 (statements lines) (does h).added (pages_of st2) (tables_of st2) fresh (does h).counts (does h).meets);
+        };
         pages = λ told. running_pages st2 h2 (ready.running told);
         runs = λ told alone. let still = done.alone told alone in record {
           answered = record {

@@ -3,7 +3,7 @@ use Rattle.std.specs.Option.{option_map}
 use Rattle.aria_model.specs.declared.refusal.Exception.TheVariants.{Spent}
 use Rattle.aria_memory.specs.Performs.{Performs}
 use Rattle.aria_memory.specs.Worlds.{world_of}
-use Rattle.aria_engine.specs.Entries.{entry}
+use Rattle.aria_engine.specs.Entries.{due, entry}
 use Rattle.aria_engine.specs.Store.{tables_of, pages_of}
 use Rattle.aria_engine.specs.Turns.{spent_of, exception_of}
 use Rattle.aria_engine.proofs.Stepping.{passed, turned}
@@ -33,3 +33,6 @@ returns-in_ok-finish-in-Ok-Some-clause-turned c =
     c.in_ok-finish-in-Ok-Some.ensures.one_line
     c.in_ok-finish-in-Ok-Some.ensures.refused
     (c.in_ok-finish-in-Ok-Some.ensures.changed ∙ sym (c.change_of-change.ensures reply))
+
+pub returns-in_err-refuse-in-Err-Refused-clause-noted : goal.returns-in_err-refuse-in-Err-Refused-clause-noted
+returns-in_err-refuse-in-Err-Refused-clause-noted c = c.refuse.ensures.noted (due (pages_of c.args.self.now) (tables_of c.args.self.now) c.args.line.now)
