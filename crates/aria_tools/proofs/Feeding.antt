@@ -117,8 +117,11 @@ taken_none n [] low none = refl
 taken_none n (b ∷ rest) low none = absurd (omega (arith, length-take n (b ∷ rest)))
 
 -- a held line is empty only where its line is
+pub held_none : (rest : List ℕ) → length (clipped rest) ≡ 0 → rest ≡ []
+held_none rest none = taken_none 1048577 rest (lit< tt) none
+
 pub clipped_none : (rest : List ℕ) → length (clipped rest) ≡ 0 → lines_of rest ≡ []
-clipped_none rest none = ap lines_of (taken_none 1048577 rest (lit< tt) none)
+clipped_none rest none = ap lines_of (held_none rest none)
 
 pub clipped_some : (rest : List ℕ) → list_any is_lf rest ≡ false → (length (clipped rest) ≡ 0 → ⊥) → lines_of rest ≡ (rest ++ []) ∷ []
 clipped_some [] none some = absurd (some refl)

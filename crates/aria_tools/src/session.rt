@@ -65,8 +65,24 @@ impl Session {
         self.store.take_met(alloc)
     }
 
-    /// Answers the held line with these bytes at its end.
-    fn end_line<H: Host>(&mut self, alloc: Global, host: &mut H, bytes: &[u8]) -> Result<(), Stop>
+    // Answers a line that lies whole in its piece.
+    fn answer<H: Host>(&mut self, alloc: Global, host: &mut H, line: &[u8]) -> Result<(), Stop>
+        requires ready { IsReady H.tells self.old.store (H.state host.old) }
+        ensures ready { OnOk result (IsReady H.tells self.new.store (H.state host.new)) }
+        ensures done { OnOk result (Does H.tells (line.now ∷ []) self.old.store self.new.store self.old.refused self.new.refused (H.state host.old) (H.state host.new)) }
+        ensures held { self.new.held ≡ self.old.held }
+        ensures part { OnErr result (DoesPart H.tells (line.now ∷ []) self.old.store self.new.store (H.state host.old) (H.state host.new)) }
+        ensures cause { IfErr result (λ stop. IsLineStop stop (H.state host.old) (H.state host.new)) }
+        ensures calm { OnOk result (SameFaults (H.state host.old) (H.state host.new)) }
+        ensures later { NoFewerFaults (H.state host.old) (H.state host.new) }
+    {
+        let outcome = self.store.execute(alloc, host, line)?;
+        self.refused |= outcome.is_refused();
+        Ok(())
+    }
+
+    // Answers the held line with these bytes at its end.
+    fn answer_held<H: Host>(&mut self, alloc: Global, host: &mut H, bytes: &[u8]) -> Result<(), Stop>
         requires ready { IsReady H.tells self.old.store (H.state host.old) }
         ensures ready { OnOk result (IsReady H.tells self.new.store (H.state host.new)) }
         ensures done { OnOk result ((rest : List ℕ) → self.old.held.items ≡ clipped rest →
@@ -83,6 +99,25 @@ impl Session {
         self.refused |= outcome.is_refused();
         self.held.clear();
         Ok(())
+    }
+
+    // Answers the line that these bytes end: what is held, and they.
+    fn end_line<H: Host>(&mut self, alloc: Global, host: &mut H, bytes: &[u8]) -> Result<(), Stop>
+        requires ready { IsReady H.tells self.old.store (H.state host.old) }
+        ensures ready { OnOk result (IsReady H.tells self.new.store (H.state host.new)) }
+        ensures done { OnOk result ((rest : List ℕ) → self.old.held.items ≡ clipped rest →
+            Does H.tells ((rest ++ bytes.now) ∷ []) self.old.store self.new.store self.old.refused self.new.refused (H.state host.old) (H.state host.new)) }
+        ensures emptied { OnOk result (self.new.held.items ≡ []) }
+        ensures part { OnErr result ((rest : List ℕ) → self.old.held.items ≡ clipped rest →
+            DoesPart H.tells ((rest ++ bytes.now) ∷ []) self.old.store self.new.store (H.state host.old) (H.state host.new)) }
+        ensures cause { IfErr result (λ stop. IsLineStop stop (H.state host.old) (H.state host.new)) }
+        ensures calm { OnOk result (SameFaults (H.state host.old) (H.state host.new)) }
+        ensures later { NoFewerFaults (H.state host.old) (H.state host.new) }
+    {
+        if self.held.as_slice().is_empty() {
+            return self.answer(alloc, host, bytes);
+        }
+        self.answer_held(alloc, host, bytes)
     }
 
     /// Answers each line that ends in the piece, and holds what is behind the last of them.
