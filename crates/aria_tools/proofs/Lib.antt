@@ -6,3 +6,4 @@ pub mod Pieces
 pub mod Runs
 pub mod Ready
 pub mod Commands
+pub mod Others

@@ -3,22 +3,23 @@ use Rattle.std.proofs.Common.{◌≡◌, ℕ, ◌+◌, ◌^◌, ◌≤◌, Bool,
 use Rattle.std.specs.Prelude.{All, IfOk, IfErr, OnErr, OnOk}
 use Rattle.std.proofs.lemmas.List.{append-nil}
 use Rattle.aria_host.specs.State.{State}
+use Rattle.aria_host.proofs.Moments.{weakened}
 use Rattle.aria_model.specs.declared.refusal.Met.{Met}
 use Rattle.aria_model.specs.World.{World}
 use Rattle.aria_model.specs.Script.{Exceptions, lines_of, ended_lines, statements}
 use Rattle.aria_model.specs.Journal.{met_at}
 use Rattle.aria_engine.specs.declared.store.Store.{Store}
-use Rattle.aria_engine.specs.Holds.{Holds}
+use Rattle.aria_engine.specs.Holds.{Holds, IsLogAlone}
 use Rattle.aria_engine.specs.Entries.{Meets}
 use Rattle.aria_engine.specs.Store.{tables_of, count_of, pages_of, met_of, IsFresh, SameFaults, NoFewerFaults}
-use Rattle.aria_engine.specs.Done.{Does, DoesPart, AreMet, IsFull, Counts as Tallies}
+use Rattle.aria_engine.specs.Done.{Leaves, Does, DoesPart, AreMet, IsFull, Counts as Tallies}
 use Rattle.aria_engine.proofs.Running.{running_holds, running_rests, running_settled, running_pages}
 use Rattle.std.proofs.Math.Seq.{take-length}
 use Rattle.aria_engine.proofs.Meeting.{meets_full}
-use Rattle.aria_engine.proofs.Doing.{does_more, does_then_part}
+use Rattle.aria_engine.proofs.Doing.{does_more, does_part, does_then_part}
 use Rattle.aria_tools.specs.declared.stop.Stop.{Stop}
 use Rattle.aria_tools.specs.Stops.{IsLineStop}
-use Rattle.aria_tools.specs.Endings.{Supply, Took, AnswersBy}
+use Rattle.aria_tools.specs.Endings.{Supply, StaysAlone, Took, AnswersBy}
 use Rattle.aria_tools.specs.Pieces.{Fed, IsReady}
 use Rattle.aria_tools.specs.Sessions.{LineStops, Works, RunsOn, RunsFrom}
 use Rattle.aria_tools.proofs.Pieces.{line_stops, same_faults_more, no_fewer_more, no_fewer_same}
@@ -68,15 +69,25 @@ works_part to s0 s1 stop st0 st1 h0 h1 fresh part by =
       };
     }
 
+-- no crash leaves a file but the log's
+pub part_alone : (to : Bool) (lines : List (List ℕ)) (st0 st1 : Store) (h0 h1 : State) → DoesPart to lines st0 st1 h0 h1 → IsTrue to → StaysAlone h0 h1
+part_alone to lines st0 st1 h0 h1 part told alone =
+    let xs = met_since st0 st1 in
+    weakened h0 h1 (Leaves (tables_of st0) lines xs h0.out) (λ c t. IsLogAlone c) ((part.all xs (met_then st0 st1)).moments told alone) (λ c t leaves. leaves.holds.alone)
+
+pub does_alone : (to : Bool) (lines : List (List ℕ)) (st0 st1 : Store) (r0 r1 : Bool) (h0 h1 : State) → Does to lines st0 st1 r0 r1 h0 h1 → IsTrue to → StaysAlone h0 h1
+does_alone to lines st0 st1 r0 r1 h0 h1 does = part_alone to lines st0 st1 h0 h1 (does_part to lines st0 st1 r0 r1 h0 h1 does)
+
 -- where a run stops
 pub stopped_on : (ti to : Bool) (s0 s1 : Supply) (r : Result Bool Stop) (st0 st1 : Store) (h0 h1 : State) (stop : Stop) → r ≡ Err stop
-    → (IsTrue ti → DoesPart to (lines_of s0.left) st0 st1 h0 h1) → LineStops ti to stop s0 s1 st0 st1 h0 h1 → (IsTrue to → h1.err ≡ h0.err) → NoFewerFaults h0 h1
+    → (IsTrue ti → DoesPart to (lines_of s0.left) st0 st1 h0 h1) → LineStops ti to stop s0 s1 st0 st1 h0 h1 → (IsTrue to → h1.err ≡ h0.err) → (IsTrue to → StaysAlone h0 h1) → NoFewerFaults h0 h1
     → RunsOn ti to s0 s1 r st0 st1 h0 h1
-stopped_on ti to s0 s1 r st0 st1 h0 h1 stop is part stops silent later = subst (λ (o : Result Bool Stop). RunsOn ti to s0 s1 o st0 st1 h0 h1) (sym is) (record {
+stopped_on ti to s0 s1 r st0 st1 h0 h1 stop is part stops silent alone later = subst (λ (o : Result Bool Stop). RunsOn ti to s0 s1 o st0 st1 h0 h1) (sym is) (record {
   ends = stops.cause;
   sound = stops.sound;
   works = λ h fresh. works_part to s0 s1 stop st0 st1 h0 h1 fresh (part h) (λ told. stops.by h told (met_at st1.tally.met) (fresh_met st0 st1 fresh));
   silent = silent;
+  alone = alone;
   later = later;
 })
 
@@ -88,8 +99,8 @@ lines_of_all to read rest st0 st1 r0 r1 h0 h1 fed =
 -- where its input ends and the last line is answered
 finished_ok : (ti to : Bool) (s0 s1 : Supply) (st0 st2 : Store) (refused : Bool) (h0 h2 : State)
     → (IsTrue ti → Does to (lines_of s0.left) st0 st2 false refused h0 h2) → s1.taken ≤ s0.taken + 2 ^ 40 → (IsTrue ti → s1.left ≡ []) → s1.faults ≡ s0.faults
-    → SameFaults h0 h2 → IsReady to st2 h2 → (IsTrue to → h2.may_leave h2.folder) → (IsTrue to → h2.err ≡ h0.err) → RunsOn ti to s0 s1 (Ok refused) st0 st2 h0 h2
-finished_ok ti to s0 s1 st0 st2 refused h0 h2 does few end calm same ready now silent = record {
+    → SameFaults h0 h2 → IsReady to st2 h2 → (IsTrue to → h2.may_leave h2.folder) → (IsTrue to → h2.err ≡ h0.err) → (IsTrue to → StaysAlone h0 h2) → RunsOn ti to s0 s1 (Ok refused) st0 st2 h0 h2
+finished_ok ti to s0 s1 st0 st2 refused h0 h2 does few end calm same ready now silent alone = record {
   ends = record { few = few; ended = end; calm = calm; same = same };
   sound = tt;
   works = λ h fresh.
@@ -119,6 +130,7 @@ finished_ok ti to s0 s1 st0 st2 refused h0 h2 does few end calm same ready now s
         };
       };
   silent = silent;
+  alone = alone;
   later = no_fewer_same h0 h2 same;
 }
 
@@ -135,6 +147,7 @@ finished_on ti to s0 s1 (Ok refused) h0 h1 h2 read rest st0 st1 st2 r1 fed took 
     let all : IsTrue ti → read ≡ s0.left = λ h. sym (took.bytes_left h ∙ ap (λ (l : List ℕ). read ++ l) (end h) ∙ append-nil read) in
     finished_ok ti to s0 s1 st0 st2 refused h0 h2 (λ h. subst (λ (l : List ℕ). Does to (lines_of l) st0 st2 false refused h0 h2) (all h) does)
     (omega (arith, took.number.no_more, few)) end calm (same_faults_more h0 h1 h2 same same_then) ready now (does_silent to (lines_of read) st0 st2 false refused h0 h2 does)
+    (does_alone to (lines_of read) st0 st2 false refused h0 h2 does)
 finished_on ti to s0 s1 (Err stop) h0 h1 h2 read rest st0 st1 st2 r1 fed took end few calm same done part cause same_then ready later now =
     let lines = lines_of_all to read rest st0 st1 false r1 h0 h1 fed in
     let does = subst (λ (ls : List (List ℕ)). DoesPart to ls st0 st2 h0 h2) (sym lines)
@@ -142,7 +155,7 @@ finished_on ti to s0 s1 (Err stop) h0 h1 h2 read rest st0 st1 st2 r1 fed took en
     let all : IsTrue ti → read ≡ s0.left = λ h. sym (took.bytes_left h ∙ ap (λ (l : List ℕ). read ++ l) (end h) ∙ append-nil read) in
     stopped_on ti to s0 s1 (Err stop) st0 st2 h0 h2 stop refl (λ h. subst (λ (l : List ℕ). DoesPart to (lines_of l) st0 st2 h0 h2) (all h) does)
     (line_stops ti to stop s0 s1 st0 st2 h0 h1 h2 (omega (arith, took.number.no_more, few)) same cause)
-    (part_silent to (lines_of read) st0 st2 h0 h2 does) (no_fewer_more h0 h1 h2 (no_fewer_same h0 h1 same) later)
+    (part_silent to (lines_of read) st0 st2 h0 h2 does) (part_alone to (lines_of read) st0 st2 h0 h2 does) (no_fewer_more h0 h1 h2 (no_fewer_same h0 h1 same) later)
 
 -- on a fresh store, the exceptions are those that it hands out
 pub runs_from : (ti to : Bool) (s0 s1 : Supply) (r : Result Bool Stop) (met : List Met) (st0 st1 : Store) (h0 h1 : State)
@@ -155,5 +168,6 @@ runs_from ti to s0 s1 r met st0 st1 h0 h1 fresh met_is runs = record {
       (meets_full 0 (pages_of st0) (tables_of st0) (lines_of s0.left) works.count st1.tally.met works.meets);
   works = λ h. subst (λ (ms : List Met). Works to s0 s1 r ms st0 h0 h1) (sym met_is) (runs.works h fresh);
   silent = runs.silent;
+  alone = runs.alone;
   later = runs.later;
 }

@@ -2,7 +2,9 @@
 use Rattle.std.specs.Prelude.{◌≡◌, ◌≢◌, ◌⊎◌, Some, ℕ, ◌+◌, ◌-◌, ◌^◌, ◌≤◌, min, Bool, IsTrue, ◌==◌, if◌then◌else◌, List, [], ◌∷◌, ◌++◌, take, drop, length, codes, Result, Ok, Err, OnOk, false, true}
 use Rattle.aria_host.specs.Count.{Rose}
 use Rattle.aria_host.specs.State.{Folder, State, LeavesOnly}
-use Rattle.aria_host.specs.Calls.{SameImages}
+use Rattle.aria_host.specs.Calls.{SameImages, Narrows}
+use Rattle.aria_host.specs.declared.file_name.FileName.{FileName}
+use Rattle.aria_host.specs.Folder.{IsFileName, same_file}
 use Rattle.aria_host.specs.declared.fault.Fault.{Fault}
 use Rattle.aria_host.specs.declared.fault.Fault.TheVariants as faults
 use Rattle.aria_model.specs.World.{World}
@@ -10,9 +12,9 @@ use Rattle.aria_model.specs.Script.{Exceptions, lines_of, ended_lines, statement
 use Rattle.aria_model.specs.declared.refusal.Met.{Met}
 use Rattle.aria_model.specs.Journal.{met_at}
 use Rattle.aria_journal.specs.Front.{end_of}
-use Rattle.aria_journal.specs.Log.{log_pages}
+use Rattle.aria_journal.specs.Log.{log_file, log_pages}
 use Rattle.aria_engine.specs.Entries.{Meets, MeetsFirst}
-use Rattle.aria_engine.specs.Holds.{Holds, IsDamage, AtRest, IsSettled}
+use Rattle.aria_engine.specs.Holds.{Holds, IsDamage, IsLogAlone, AreLogAlone, AtRest, IsSettled}
 use Rattle.aria_engine.specs.Store.{SameFaults}
 use Rattle.aria_engine.specs.Done.{Leaves}
 use Rattle.aria_tools.specs.declared.stop.Stop.{Stop}
@@ -39,10 +41,10 @@ pub record Took (tells : Bool) (bytes : List ℕ) (before now : Supply) : Type 0
 abbrev pub TookFew : Supply → Supply → Type 0
 TookFew before now = now.taken ≤ before.taken + 2 ^ 40
 
--- the folder is left as it was, with this damage
+-- this damage stands in the folder, in which nothing is changed
 abbrev pub IsFoundDamaged : Bool → Stop → State → State → Type 0
-IsFoundDamaged tells (LogDamaged file page) before now = IsTrue tells → IsDamage (faults.LogDamaged file page) before.folder × (now.folder ≡ before.folder)
-IsFoundDamaged tells (NotOurs file) before now = IsTrue tells → IsDamage (faults.NotOurs file) before.folder × (now.folder ≡ before.folder)
+IsFoundDamaged tells (LogDamaged file page) before now = IsTrue tells → IsDamage (faults.LogDamaged file page) before.folder × Narrows before now
+IsFoundDamaged tells (NotOurs file) before now = IsTrue tells → IsDamage (faults.NotOurs file) before.folder × Narrows before now
 IsFoundDamaged tells _ before now = ⊥
 
 -- the cause of each reason to stop
@@ -122,6 +124,32 @@ pub record Runs (supply supply_now : Supply) (world : World) (exceptions : Excep
 -- a crash leaves what one might have left as the run began, with nothing told since
 abbrev pub Began : State → Folder → List ℕ → Type 0
 Began before c b = before.may_leave c × (b ≡ before.out)
+
+-- Nothing is changed: the folder reads as it did, and a crash, now or at any moment, leaves what one might have left as
+-- the run began, with nothing told.
+pub record ChangesNothing (before now : State) : Type 0 where
+  pub folder : now.folder ≡ before.folder
+  pub images : (c : Folder) → now.may_leave c → before.may_leave c
+  pub moments : LeavesOnly before now (Began before)
+
+-- the folder has the files of another, but for the log's
+abbrev pub SameOtherFiles : Folder → Folder → Type 0
+SameOtherFiles before now = (f : FileName) → IsFileName f → same_file log_file f ≡ false → now f ≡ before f
+
+-- a crash leaves what one might have left as the run began, but for the log's file
+abbrev pub BeganButLog : State → Folder → Type 0
+BeganButLog before c = (d : Folder) × before.may_leave d × SameOtherFiles d c
+
+-- Files other than the log's are left as they are: in the folder, in what a crash now may leave, and in what one at any
+-- moment might have left.
+pub record LeavesOtherFiles (before now : State) : Type 0 where
+  pub folder : SameOtherFiles before.folder now.folder
+  pub images : (c : Folder) → now.may_leave c → BeganButLog before c
+  pub moments : LeavesOnly before now (λ c told. BeganButLog before c)
+
+-- no crash leaves a file but the log's at any moment, where none did as the run began
+abbrev pub StaysAlone : State → State → Type 0
+StaysAlone before now = AreLogAlone before → LeavesOnly before now (λ c told. IsLogAlone c)
 
 -- A run on a folder that read as these tables, and its opening: the statements that it answered, of which these met
 -- exceptions, what was told, and what a crash at any moment may have left.

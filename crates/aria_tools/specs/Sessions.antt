@@ -12,7 +12,7 @@ use Rattle.aria_engine.specs.Store.{tables_of, count_of, pages_of, IsFresh, NoFe
 use Rattle.aria_engine.specs.Done.{AreMet, IsFull}
 use Rattle.aria_tools.specs.declared.stop.Stop.{Stop}
 use Rattle.aria_tools.specs.Stops.{named_fault}
-use Rattle.aria_tools.specs.Endings.{Supply, StopsBy, AnswersBy, Ends, Runs}
+use Rattle.aria_tools.specs.Endings.{Supply, StopsBy, AnswersBy, Ends, Runs, StaysAlone}
 
 -- the cause where lines are executed and the run stops, and what is answered then
 pub record LineStops (tells told_too : Bool) (stop : Stop) (supply supply_now : Supply) (st0 st1 : Store) (before now : State) : Type 0 where
@@ -34,6 +34,7 @@ pub record RunsOn (tells told_too : Bool) (supply supply_now : Supply) (result :
   pub sound : IfErr result (λ stop. named_fault stop ≡ None)
   pub works : IsTrue tells → IsFresh st0 → Works told_too supply supply_now result st1.tally.met st0 before now
   pub silent : IsTrue told_too → now.err ≡ before.err
+  pub alone : IsTrue told_too → StaysAlone before now
   pub later : NoFewerFaults before now
 
 -- a run on a store that was opened for it, in which these exceptions were met
@@ -43,4 +44,5 @@ pub record RunsFrom (tells told_too : Bool) (supply supply_now : Supply) (result
   pub full : IsTrue tells → All (IsFull (lines_of supply.left) 0 (pages_of store)) met
   pub works : IsTrue tells → Works told_too supply supply_now result met store before now
   pub silent : IsTrue told_too → now.err ≡ before.err
+  pub alone : IsTrue told_too → StaysAlone before now
   pub later : NoFewerFaults before now

@@ -2,6 +2,7 @@
 
 ghost use Rattle.std.specs.Prelude.{◌≡◌, ◌≢◌, ◌⊎◌, ◌↔◌, ◌+◌, ◌^◌, ◌≤◌, ◌++◌, ℕ, List, [], All, length, take, IsTrue};
 ghost use Rattle.aria_host.specs.Count.{Rose};
+ghost use Rattle.aria_host.specs.Calls.{SameImages};
 ghost use Rattle.aria_host.specs.Folder.{page_count};
 ghost use Rattle.aria_host.specs.State.{LeavesOnly};
 ghost use Rattle.aria_journal.specs.Log.{log_file};
@@ -11,7 +12,7 @@ ghost use Rattle.aria_model.specs.Journal.{met_at};
 ghost use Rattle.aria_engine.specs.Holds.{EachHolds, EachHoldsSome, HoldsSome, ReadsAs, Holds, AtRest, IsSettled};
 ghost use Rattle.aria_engine.specs.Store.{SameFaults};
 ghost use Rattle.aria_engine.specs.Done.{IsFull};
-ghost use Rattle.aria_tools.specs.Endings.{AnswersEnded, AnswersFull, BeganOrPrefix, Counts, IsStatus, MeetsAllDue, MeetsDue, Prefix, TellsStatus};
+ghost use Rattle.aria_tools.specs.Endings.{AnswersEnded, AnswersFull, BeganOrPrefix, ChangesNothing, Counts, IsStatus, LeavesOtherFiles, MeetsAllDue, MeetsDue, Prefix, TellsStatus};
 ghost use Rattle.aria_tools.specs.Pieces.{supply};
 ghost use Rattle.aria_tools.specs.Words.{IsRun};
 
@@ -56,6 +57,9 @@ pub fn aria<H: Host, S: Source>(
     // begins so too, however this one ends.
     ensures any_moment_held { IsTrue H.tells → IsTrue S.tells → EachHoldsSome (H.state host.old) → LeavesOnly (H.state host.old) (H.state host.new) (λ c b. HoldsSome c) }
 
+    // However it ends, and whatever the folder held: files other than the log's are left as they are.
+    ensures others { IsTrue H.tells → LeavesOtherFiles (H.state host.old) (H.state host.new) }
+
     // Exactly the statements are refused for want of room in the log, and listed, that begin with the log full and that a
     // spent log refuses: each once, in their order.
     ensures met_due { result.status ≢ 2 → IsTrue S.tells → IsTrue H.tells → (world : World) → ReadsAs (H.state host.old) world
@@ -72,7 +76,8 @@ pub fn aria<H: Host, S: Source>(
     ensures bad_words_read { result.status ≡ 2 → input.new ≡ input.old }
     ensures bad_words_met { result.status ≡ 2 → result.met ≡ [] }
     ensures bad_words_told { result.status ≡ 2 → IsTrue H.tells → (H.state host.new).out ≡ (H.state host.old).out }
-    ensures bad_words_kept { result.status ≡ 2 → IsTrue H.tells → (H.state host.new).folder ≡ (H.state host.old).folder }
+    ensures bad_words_kept { result.status ≡ 2 → IsTrue H.tells → ChangesNothing (H.state host.old) (H.state host.new) }
+    ensures bad_words_images { result.status ≡ 2 → IsTrue H.tells → SameImages (H.state host.old) (H.state host.new) }
 
     // With 0 or 1 all of the input was read, and what its lines tell was told; 1 says that a reply was a refusal. The
     // folder is at rest and holds the tables after all statements. No fault was counted.
@@ -99,8 +104,8 @@ pub fn aria<H: Host, S: Source>(
     ensures disk_fault { result.status ≡ 4 → Rose (H.state host.old).disk_faults (H.state host.new).disk_faults }
 
     // 5: the folder is damaged (`error_text` says of what), and left as it was; nothing was read.
-    ensures damage_kept { result.status ≡ 5 → IsTrue H.tells → (H.state host.new).folder ≡ (H.state host.old).folder }
-    ensures damage_read { result.status ≡ 5 → S.left input.new ≡ S.left input.old }
+    ensures damage_kept { result.status ≡ 5 → IsTrue H.tells → ChangesNothing (H.state host.old) (H.state host.new) }
+    ensures damage_read { result.status ≡ 5 → input.new ≡ input.old }
 
     // 6: the input failed. All lines are answered that LF ends in the bytes taken.
     ensures input_fault { result.status ≡ 6 → Rose (S.faults input.old) (S.faults input.new) }

@@ -8,7 +8,7 @@ ghost use Rattle.aria_model.specs.Script.{lines_of};
 ghost use Rattle.aria_engine.specs.Holds.{ReadsAs};
 ghost use Rattle.aria_engine.specs.Store.{NoFewerFaults, SameFaults, IsFresh};
 ghost use Rattle.aria_engine.specs.Done.{DoesPart, IsFull};
-ghost use Rattle.aria_tools.specs.Endings.{Ends, RunsWhole, Took, WasSound};
+ghost use Rattle.aria_tools.specs.Endings.{Ends, LeavesOtherFiles, RunsWhole, StaysAlone, Took, WasSound, status_of_run};
 ghost use Rattle.aria_tools.specs.Held.{clipped};
 ghost use Rattle.aria_tools.specs.Pieces.{Fed, IsReady, TakesPiece, NoPiece, supply};
 ghost use Rattle.aria_tools.specs.Sessions.{LineStops, RunsOn, RunsFrom};
@@ -74,6 +74,7 @@ fn read_script<H: Host, S: Source>(
         (supply (S.left input.old) (S.taken input.old) (S.faults input.old)) (supply (S.left input.new) (S.taken input.new) (S.faults input.new))
         session.old.store session.new.store (H.state host.old) (H.state host.new)) }
     ensures silent { IsTrue H.tells → (H.state host.new).err ≡ (H.state host.old).err }
+    ensures alone { IsTrue H.tells → StaysAlone (H.state host.old) (H.state host.new) }
     ensures calm { OnOk result (SameFaults (H.state host.old) (H.state host.new)) }
     ensures calm_too { OnOk result (S.faults input.new ≡ S.faults input.old) }
     ensures later { NoFewerFaults (H.state host.old) (H.state host.new) }
@@ -133,6 +134,8 @@ pub fn run<H: Host, S: Source>(alloc: Global, host: &mut H, input: &mut S) -> Ra
     ensures sound { IsTrue H.tells → WasSound result.outcome (H.state host.old).folder }
     ensures full { IsTrue S.tells → IsTrue H.tells → All (IsFull (lines_of (S.left input.old)) 0 (page_count log_file (H.state host.old).folder)) result.met }
     ensures silent { IsTrue H.tells → (H.state host.new).err ≡ (H.state host.old).err }
+    ensures others { IsTrue H.tells → LeavesOtherFiles (H.state host.old) (H.state host.new) }
+    ensures untouched { status_of_run result.outcome ≡ 5 → input.new ≡ input.old }
     ensures later { NoFewerFaults (H.state host.old) (H.state host.new) }
 {
     match Store::open(alloc, host) {

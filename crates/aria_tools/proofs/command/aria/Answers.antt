@@ -9,6 +9,7 @@ use Rattle.aria_engine.proofs.Opening.{each_reads, some_reads}
 use Rattle.aria_tools.specs.Endings.{Began, Prefix, BeganOrPrefix}
 use Rattle.aria_tools.specs.Pieces.{supply}
 use Rattle.aria_tools.proofs.Commands.{began_or_prefix, each_prefix, each_some, moments_after, meets_due, meets_all_due, refused_is, all_answered, ended_ok, ended_answered, full_answered, front_told, text_is, text_after, completes, sound_where, run_statuses}
+use Rattle.aria_tools.proofs.Others.{others_after, told_nothing, nothing_others, damage_nothing, ended_five, ended_damage}
 use Rattle.aria_tools.proofs.command.aria.Goals as goal
 
 pub returns-clause-any_moment : goal.returns-clause-any_moment
@@ -144,3 +145,33 @@ returns-clause-done_met g c low ti to world reads =
     (supply (g.S.Source.left c.run-ran.new.input) (g.S.Source.taken c.run-ran.new.input) (g.S.Source.faults c.run-ran.new.input))
     world c.run-ran.result.met c.run-ran.result.outcome c.end.result (g.H.Host.state c.args.host.now) (g.H.Host.state c.run-ran.new.host) (g.H.Host.state c.end.new.host)
     c.end.ensures.status low (c.run-ran.ensures.runs ti to world reads) (c.end.ensures.only to).folder
+
+pub returns-clause-others : goal.returns-clause-others
+returns-clause-others g c to =
+    let old = g.H.Host.state c.args.host.now in
+    others_after old (g.H.Host.state c.run-ran.new.host) (g.H.Host.state c.end.new.host)
+    (λ f low leaves. g.met.H.Host.counts_now c.run-ran.new.host old.moment f to low leaves) (c.run-ran.ensures.others to) (c.end.ensures.only to)
+
+pub returns-clause-damage_read : goal.returns-clause-damage_read
+returns-clause-damage_read g c five = c.run-ran.ensures.untouched (ended_five c.run-ran.result.outcome c.end.result c.end.ensures.status five)
+
+pub returns-clause-damage_kept : goal.returns-clause-damage_kept
+returns-clause-damage_kept g c five to =
+    let old = g.H.Host.state c.args.host.now in
+    let mid = g.H.Host.state c.run-ran.new.host in
+    damage_nothing old mid (g.H.Host.state c.end.new.host) (λ f t left. g.met.H.Host.only_now c.args.host.now f t to left)
+    (λ f low leaves. g.met.H.Host.counts_now c.run-ran.new.host old.moment f to low leaves)
+    (ended_damage g.S.Source.tells g.H.Host.tells (supply (g.S.Source.left c.args.input.now) (g.S.Source.taken c.args.input.now) (g.S.Source.faults c.args.input.now))
+    (supply (g.S.Source.left c.run-ran.new.input) (g.S.Source.taken c.run-ran.new.input) (g.S.Source.faults c.run-ran.new.input))
+    c.run-ran.result.outcome old mid c.run-ran.ensures.ends (ended_five c.run-ran.result.outcome c.end.result c.end.ensures.status five) to)
+    (c.end.ensures.only to)
+
+pub returns-then-not-is_run-clause-bad_words_kept : goal.returns-then-not-is_run-clause-bad_words_kept
+returns-then-not-is_run-clause-bad_words_kept g c two to =
+    told_nothing _ _ (g.H.Host.state c.args.host.now) (g.H.Host.state c.tell.new.self) (λ f t left. g.met.H.Host.only_now c.args.host.now f t to left) (c.tell.ensures.told to)
+
+pub returns-then-not-is_run-clause-others : goal.returns-then-not-is_run-clause-others
+returns-then-not-is_run-clause-others g c to =
+    let old = g.H.Host.state c.args.host.now in
+    let now = g.H.Host.state c.tell.new.self in
+    nothing_others old now (told_nothing _ _ old now (λ f t left. g.met.H.Host.only_now c.args.host.now f t to left) (c.tell.ensures.told to))

@@ -3,7 +3,8 @@ use Rattle.std.specs.Prelude.{Result, IfErr}
 use Rattle.aria_tools.specs.declared.stop.Stop.{Stop}
 use Rattle.aria_tools.specs.Sessions.{LineStops}
 use Rattle.aria_tools.proofs.Pieces.{no_piece_stops, line_stops}
-use Rattle.aria_tools.proofs.Runs.{part_silent, does_silent}
+use Rattle.aria_tools.proofs.Runs.{part_silent, does_silent, part_alone, does_alone}
+use Rattle.aria_engine.proofs.Doing.{does_then_part}
 use Rattle.std.proofs.Common.{Err, subst, ◌^◌, ◌≤◌, ℕ, [], ◌++◌, List, length, ◌+◌, take, refl, sym, ap, ◌∙◌, arith}
 use Rattle.std.proofs.lemmas.List.{append_assoc, length-append, length-take-le}
 use Rattle.aria_tools.proofs.Ready.{ready_now}
@@ -116,3 +117,19 @@ returns-in_err-feed-clause-silent g c told =
 pub returns-then-n-eq0-clause-silent : goal.returns-then-n-eq0-clause-silent
 returns-then-n-eq0-clause-silent g c told =
     does_silent g.H.Host.tells _ c.args.session.now.store c.pieces.session.store c.args.session.now.refused c.pieces.session.refused (g.H.Host.state c.args.host.now) (g.H.Host.state c.pieces.host) c.pieces.invariant.4.fed.does told
+
+pub returns-in_err-n-clause-alone : goal.returns-in_err-n-clause-alone
+returns-in_err-n-clause-alone g c told =
+    does_alone g.H.Host.tells _ c.args.session.now.store c.pieces.session.store c.args.session.now.refused c.pieces.session.refused (g.H.Host.state c.args.host.now) (g.H.Host.state c.pieces.host) c.pieces.invariant.4.fed.does told
+
+pub returns-in_err-feed-clause-alone : goal.returns-in_err-feed-clause-alone
+returns-in_err-feed-clause-alone g c told =
+    let reached = c.pieces.invariant.4 in
+    part_alone g.H.Host.tells _ c.args.session.now.store c.feed.new.self.store (g.H.Host.state c.args.host.now) (g.H.Host.state c.feed.new.host)
+    (does_then_part g.H.Host.tells _ _ c.args.session.now.store c.pieces.session.store c.feed.new.self.store c.args.session.now.refused c.pieces.session.refused
+    (g.H.Host.state c.args.host.now) (g.H.Host.state c.pieces.host) (g.H.Host.state c.feed.new.host)
+    reached.fed.does (c.in_err-feed.ensures.part c.pieces.invariant.1 reached.fed.splits.no_lf c.pieces.invariant.2)) told
+
+pub returns-then-n-eq0-clause-alone : goal.returns-then-n-eq0-clause-alone
+returns-then-n-eq0-clause-alone g c told =
+    does_alone g.H.Host.tells _ c.args.session.now.store c.pieces.session.store c.args.session.now.refused c.pieces.session.refused (g.H.Host.state c.args.host.now) (g.H.Host.state c.pieces.host) c.pieces.invariant.4.fed.does told

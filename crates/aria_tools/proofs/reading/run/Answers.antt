@@ -7,6 +7,7 @@ use Rattle.aria_tools.specs.Stops.{stop_of}
 use Rattle.aria_tools.specs.Endings.{RunsWhole}
 use Rattle.aria_tools.specs.Pieces.{supply}
 use Rattle.aria_tools.proofs.Commands.{ends_after, runs_after, runs_never, opening_answers, was_sound}
+use Rattle.aria_tools.proofs.Others.{opened_others, run_others, no_five}
 use Rattle.aria_tools.proofs.reading.run.Goals as goal
 
 pub returns-in-Ok-clause-ends : goal.returns-in-Ok-clause-ends
@@ -39,3 +40,18 @@ returns-in-Err-clause-runs g c ti to world reads =
     subst (λ (stop : Stop). RunsWhole supply0 supply0 world met (Err stop) old now) (sym c.from.ensures)
     (runs_never supply0 supply0 world met (stop_of c.in-Err.fault) old now c.new.ensures (c.in-Err.ensures.silent to).out
     (opening_answers g.H.Host.tells c.in-Err.fault supply0 supply0 world (met_at met) old now c.in-Err.ensures.cause) ((c.in-Err.ensures.opens to).moments world reads))
+
+pub returns-in-Ok-clause-others : goal.returns-in-Ok-clause-others
+returns-in-Ok-clause-others g c to =
+    let old = g.H.Host.state c.args.host.now in
+    let mid = g.H.Host.state c.open.new.host in
+    let now = g.H.Host.state c.run_store.new.host in
+    run_others old mid now (g.met.H.Host.reads_now c.open.new.host to) (g.met.H.Host.reads_now c.run_store.new.host to)
+    (λ f low leaves. g.met.H.Host.counts_now c.run_store.new.host mid.moment f to low leaves)
+    (c.in-Ok.ensures.others to) (c.in-Ok.ensures.alone to) (c.run_store.ensures.runs.alone to (c.in-Ok.ensures.alone to))
+
+pub returns-in-Ok-clause-untouched : goal.returns-in-Ok-clause-untouched
+returns-in-Ok-clause-untouched g c five = absurd (no_five c.run_store.result.outcome c.run_store.ensures.runs.sound five)
+
+pub returns-in-Err-clause-others : goal.returns-in-Err-clause-others
+returns-in-Err-clause-others g c to = opened_others (g.H.Host.state c.args.host.now) (g.H.Host.state c.open.new.host) (c.in-Err.ensures.others to)

@@ -5,7 +5,7 @@ use Rattle.aria_engine.proofs.Doing.{does_none}
 use Rattle.aria_tools.specs.declared.stop.Stop.TheVariants.{Memory}
 use Rattle.aria_tools.specs.Pieces.{Fed, supply}
 use Rattle.aria_tools.proofs.Ready.{ready_now}
-use Rattle.aria_tools.proofs.Runs.{stopped_on, finished_on}
+use Rattle.aria_tools.proofs.Runs.{part_alone, stopped_on, finished_on}
 use Rattle.aria_tools.proofs.reading.run_session.Goals as goal
 
 pub returns-in_err-piece : goal.returns-in_err-piece
@@ -14,12 +14,13 @@ returns-in_err-piece g c = record {
       let p = err_from_is_err_and c.from_residual.result c.from_residual.ensures.1 in
       let supply0 = supply (g.S.Source.left c.args.input.now) (g.S.Source.taken c.args.input.now) (g.S.Source.faults c.args.input.now) in
       let before = g.H.Host.state c.args.host.now in
+      let none = does_none g.H.Host.tells (lines_of (g.S.Source.left c.args.input.now)) c.args.session.now.store c.args.session.now.store before refl
+      (ready_now g.H.Host.tells c.args.session.now.store before c.requires.ready (λ f t told since. g.met.H.Host.only_now c.args.host.now f t told since)) in
       stopped_on g.S.Source.tells g.H.Host.tells supply0 supply0 c.from_residual.result c.args.session.now.store c.args.session.now.store before before Memory
       (p.1 ∙ ap Err p.2)
-      (λ h. does_none g.H.Host.tells (lines_of (g.S.Source.left c.args.input.now)) c.args.session.now.store c.args.session.now.store before refl
-      (ready_now g.H.Host.tells c.args.session.now.store before c.requires.ready (λ f t told since. g.met.H.Host.only_now c.args.host.now f t told since)))
+      (λ h. none)
       (record { cause = omega arith; sound = refl; by = λ h told xs met. tt })
-      (λ told. refl) (record { disk = omega arith; tell = omega arith });
+      (λ told. refl) (part_alone g.H.Host.tells (lines_of (g.S.Source.left c.args.input.now)) c.args.session.now.store c.args.session.now.store before before none) (record { disk = omega arith; tell = omega arith });
 }
 
 pub returns-in_err-read_script : goal.returns-in_err-read_script
@@ -30,7 +31,7 @@ returns-in_err-read_script g c = record {
       let supply1 = supply (g.S.Source.left c.read_script.new.input) (g.S.Source.taken c.read_script.new.input) (g.S.Source.faults c.read_script.new.input) in
       stopped_on g.S.Source.tells g.H.Host.tells supply0 supply1 c.from_residual-in_err-read_script.result c.args.session.now.store c.read_script.new.session.store
       (g.H.Host.state c.args.host.now) (g.H.Host.state c.read_script.new.host) c.in_err-read_script.field-0.0
-      (p.1 ∙ ap Err p.2) c.in_err-read_script.ensures.part c.in_err-read_script.ensures.cause c.in_err-read_script.ensures.silent c.in_err-read_script.ensures.later;
+      (p.1 ∙ ap Err p.2) c.in_err-read_script.ensures.part c.in_err-read_script.ensures.cause c.in_err-read_script.ensures.silent c.in_err-read_script.ensures.alone c.in_err-read_script.ensures.later;
 }
 
 pub returns : goal.returns
