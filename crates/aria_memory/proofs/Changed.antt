@@ -18,8 +18,8 @@ use Rattle.aria_model.specs.declared.refusal.Refusal.{Refusal}
 use Rattle.aria_model.specs.declared.refusal.Refusal.TheVariants.{RowTooLong, Duplicate}
 use Rattle.aria_model.specs.declared.statement.Setting.{Setting}
 use Rattle.aria_model.specs.Step.{first_key_name, first_of, refused_where, set_row, set_refusal, Puts, set_all}
-use Rattle.aria_memory.specs.declared.change.Change.{Change}
-use Rattle.aria_memory.specs.declared.change.Done.{Done}
+use Rattle.aria_memory.specs.declared.update.Change.{Change}
+use Rattle.aria_memory.specs.declared.update.Done.{Done}
 use Rattle.aria_memory.specs.Keyed.{values_cmp, values_in, has_key, are_keyed}
 use Rattle.aria_memory.specs.Updated.{change_of, IsSet, put_back, taken_back}
 use Rattle.aria_memory.proofs.Entries.{remove_absent, remove_inserted, removed_back, keyed_without, beside_removed}

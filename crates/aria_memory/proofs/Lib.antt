@@ -4,6 +4,7 @@ pub mod Sought
 pub mod Found
 pub mod Without
 pub mod Worlds
+mod Stopping
 pub mod Outcomes
 pub mod Kept
 pub mod Quiet

@@ -75,6 +75,12 @@ pub insert_many : (world : World) (name : List ℕ) (d : Definition) (old rows :
     → nat_lt 65536 (length rows) ≡ true → insert world name rows exception ≡ refused world TooManyRows
 insert_many world name d old rows exception has many = inserts_by world name d old rows true exception (put_all d exception 1 old rows) has many refl
 
+pub insert_spent : (world : World) (name : List ℕ) (d : Definition) (old rows : List (List Value)) (exception : Option Exception) (why : Refusal) → world name ≡ Some (sound d old)
+    → nat_lt 65536 (length rows) ≡ false → spent exception ≡ Some why → insert world name rows exception ≡ refused world why
+insert_spent world name d old rows exception why has few is =
+    ap (insert_at world name rows exception) has
+    ∙ (λ i. unless (first_of (refused_where (few i) TooManyRows ∷ is i ∷ [])) world (inserted world name (sound d old) (length rows) (put_all d exception 1 old rows)))
+
 -- what rows leave, by its parts
 pub same_puts : (puts : Puts) (rows : List (List Value)) (refusal : Option Refusal) → rows ≡ puts.rows → refusal ≡ puts.refusal → puts ≡ record { rows = rows; refusal = refusal }
 same_puts puts rows refusal r f = λ i. record { rows = sym r i; refusal = sym f i }

@@ -15,36 +15,6 @@ use Rattle.aria_value.specs.Entry.{has_type}
 use Rattle.aria_model.specs.Step.{option_suc, key_number, name_at, bad_sought}
 use Rattle.aria_memory.specs.Keyed.{are_columns_of}
 
--- ---- the key of a name
-
--- a number counted from a further place
-abbrev pub further : ℕ → Option ℕ → Option ℕ
-further i None = None
-further i (Some n) = Some (i + n)
-
-further_suc : (i : ℕ) (rest : Option ℕ) → further i (option_suc rest) ≡ further (i + 1) rest
-further_suc i None = refl
-further_suc i (Some n) = let same : i + suc n ≡ i + 1 + n = omega arith in ap Some same
-
-key_number_from : (keys : List Key) (wanted : List ℕ) (i : ℕ) (key : Key) → i < length keys → get_or keys i key ≡ key
-    → key_number (drop i keys) wanted ≡ cond (same_name key.name wanted) (Some 0) (option_suc (key_number (drop (i + 1) keys) wanted))
-key_number_from keys wanted i key low is = rw (add-one, drop-cons keys i key, is) refl
-
--- the key at a place has the name
-pub key_number_here : (keys : List Key) (wanted : List ℕ) (i : ℕ) (key : Key) → i < length keys → get_or keys i key ≡ key → same_name key.name wanted ≡ true
-    → further i (key_number (drop i keys) wanted) ≡ Some i
-key_number_here keys wanted i key low is same =
-    let rest = option_suc (key_number (drop (i + 1) keys) wanted) in
-    let here : i + 0 ≡ i = omega arith in
-    ap (further i) (key_number_from keys wanted i key low is ∙ ap (λ b. cond b (Some 0) rest) same) ∙ ap Some here
-
--- it hasn't
-pub key_number_next : (keys : List Key) (wanted : List ℕ) (i : ℕ) (key : Key) → i < length keys → get_or keys i key ≡ key → same_name key.name wanted ≡ false
-    → further i (key_number (drop i keys) wanted) ≡ further (i + 1) (key_number (drop (i + 1) keys) wanted)
-key_number_next keys wanted i key low is other =
-    let rest = option_suc (key_number (drop (i + 1) keys) wanted) in
-    ap (further i) (key_number_from keys wanted i key low is ∙ ap (λ b. cond b (Some 0) rest) other) ∙ further_suc i (key_number (drop (i + 1) keys) wanted)
-
 -- ---- values that may be sought
 
 -- a column by its number

@@ -1,4 +1,5 @@
 pub mod Keyed
+pub mod Stopping
 pub mod Undone
 pub mod Without
 pub mod Worlds

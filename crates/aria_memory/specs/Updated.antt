@@ -9,8 +9,8 @@ use Rattle.aria_value.specs.Order.{key_columns}
 use Rattle.aria_model.specs.declared.refusal.Refusal.{Refusal}
 use Rattle.aria_model.specs.declared.statement.Setting.{Setting}
 use Rattle.aria_model.specs.Step.{set_row, set_all}
-use Rattle.aria_memory.specs.declared.change.Change.{Change}
-use Rattle.aria_memory.specs.declared.change.Done.{Done}
+use Rattle.aria_memory.specs.declared.update.Change.{Change}
+use Rattle.aria_memory.specs.declared.update.Done.{Done}
 use Rattle.aria_memory.specs.Keyed.{values_cmp, values_in}
 
 -- a row's key, and what the settings make of it

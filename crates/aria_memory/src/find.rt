@@ -1,48 +1,23 @@
 //! The rows that a statement concerns: those that have its values first in a key's columns.
 
-ghost use Rattle.std.specs.Prelude.{◌≡◌, ◌<◌, [], map, length, IfOk, IfErr, IsTrue};
+ghost use Rattle.std.specs.Prelude.{◌≡◌, ◌<◌, [], map, length, IfOk, IfErr, IsTrue, Some, None};
 ghost use Rattle.std.specs.List.{filter};
 ghost use Rattle.std.specs.BTreeMap.{IsOrdered, values};
 ghost use Rattle.std.specs.Ordering.{is_eq};
 ghost use Rattle.aria_value.specs.Defined.{is_definition};
 ghost use Rattle.aria_value.specs.Order.{value_cmp, value_at, columns_cmp, key_columns, order_columns, sorted, has_values};
-ghost use Rattle.aria_value.specs.Entry.{has_type};
+ghost use Rattle.aria_model.specs.declared.refusal.Refusal.TheVariants.{NoKey};
 ghost use Rattle.aria_model.specs.Step.{key_number, bad_sought, concerned};
 ghost use Rattle.aria_memory.specs.Keyed.{values_cmp, values_in, are_keyed, are_columns_of};
 ghost use Rattle.aria_memory.specs.Seeking.{seek_refusal};
 
+use crate::limits::holds_values;
 use crate::row_key::RowKey;
-use crate::rows::key_of;
 use aria_model::Refusal;
 use aria_page::{List, Name};
-use aria_value::{Column, ColumnType, Definition, Key, Row, Value, first_key_columns, key_columns};
+use aria_value::{Column, Definition, Row, Value};
 use std::alloc::{AllocError, Global};
 use std::collections::BTreeMap;
-
-/// The number of the key of this name, counted from 0.
-pub(crate) fn key_number(keys: &[Key], name: &Name) -> Option<usize>
-    ensures { result ≡ key_number keys.now name.now }
-{
-    for (nth, key) in keys.iter().enumerate() {
-        if key.name == *name {
-            return Some(nth);
-        }
-    }
-    None
-}
-
-// Whether a value may be sought in a column of this kind.
-fn may_seek(kind: ColumnType, value: &Value) -> bool
-    ensures { result ≡ has_type kind value.now }
-{
-    match (kind, value) {
-        (_, Value::Null) => true,
-        (ColumnType::Int, Value::Int(_)) => true,
-        (ColumnType::Int, Value::Text(_)) => false,
-        (ColumnType::Text(_), Value::Int(_)) => false,
-        (ColumnType::Text(_), Value::Text(_)) => true,
-    }
-}
 
 /// The first of a key's columns in which a value may not be sought, and the last one where values are left.
 pub(crate) fn bad_sought(columns: &[Column], key: &[u8], values: &[Value]) -> Option<Name>
@@ -56,7 +31,7 @@ pub(crate) fn bad_sought(columns: &[Column], key: &[u8], values: &[Value]) -> Op
             None => return Some(last),
             Some(number) => {
                 let column = columns[*number as usize];
-                if !may_seek(column.kind, value) {
+                if !column.kind.is_type_of(value) {
                     return Some(column.name);
                 }
                 last = column.name;
@@ -66,27 +41,31 @@ pub(crate) fn bad_sought(columns: &[Column], key: &[u8], values: &[Value]) -> Op
     None
 }
 
-/// The number of the key of this name, by which the values may be sought, or the first refusal of them.
+/// The number of the key of this name, counted from 0.
+pub(crate) fn named_key(definition: &Definition, name: Name) -> Result<usize, Refusal>
+    ensures none { IfErr result (λ why. (why ≡ NoKey name) × (key_number definition.now.keys name ≡ None)) }
+    ensures found { IfOk result (λ number. key_number definition.now.keys name ≡ Some number) }
+{
+    match definition.key_number(&name) {
+        Some(number) => Ok(number),
+        None => Err(Refusal::NoKey { name }),
+    }
+}
+
+/// The number of the key of this name, by which the values may be sought.
 pub(crate) fn seek(definition: &Definition, key: Name, values: &[Value]) -> Result<usize, Refusal>
     requires { IsTrue (is_definition definition.now) }
     ensures refused { IfErr result (λ why. seek_refusal definition.now key values.now ≡ Some why) }
     ensures found { IfOk result (λ number. key_number definition.now.keys key ≡ Some number) }
     ensures sought { IfOk result (λ _. seek_refusal definition.now key values.now ≡ None) }
 {
-    let keys = definition.keys.as_slice();
-    match key_number(keys, &key) {
-        None => Err(Refusal::NoKey { name: key }),
-        Some(number) => {
-            match bad_sought(
-                definition.columns.as_slice(),
-                key_columns(keys, number),
-                values,
-            ) {
-                Some(column) => Err(Refusal::BadValue { column }),
-                None => Ok(number),
-            }
-        }
-    }
+    let number = named_key(definition, key)?;
+    holds_values(bad_sought(
+        definition.columns.as_slice(),
+        definition.key_columns(number),
+        values,
+    ))?;
+    Ok(number)
 }
 
 // Whether a row has the value in a column.
@@ -124,10 +103,9 @@ fn order_columns(
 ) -> Result<List<u8>, AllocError>
     ensures { IfOk result (λ columns. columns ≡ order_columns definition.now number) }
 {
-    let keys = definition.keys.as_slice();
-    let mut columns = List::from_slice(alloc, key_columns(keys, number))?;
+    let mut columns = List::from_slice(alloc, definition.key_columns(number))?;
     if number > 0 {
-        columns.extend_from_slice(key_columns(keys, 0))?;
+        columns.extend_from_slice(definition.first_key_columns())?;
     }
     Ok(columns)
 }
@@ -144,7 +122,7 @@ fn find_by_first<'a>(
     ensures found { IfOk result (λ found. map (λ r. r.now) found.items ≡ concerned definition.now 0 sought.now (values rows.now)) }
     ensures ordered { IfOk result (λ _. IsOrdered values_cmp rows.now) }
 {
-    let columns = first_key_columns(definition);
+    let columns = definition.first_key_columns();
     let least = RowKey::from_slice(alloc, sought)?;
     let mut found = Vec::new(alloc);
     for (_, row) in rows.range(&least..) {
@@ -185,7 +163,7 @@ fn by_columns<'a>(
 {
     let mut ordered = BTreeMap::new(alloc);
     while let Some(row) = found.pop() {
-        ordered.insert(key_of(alloc, columns, row.as_slice())?, row)?;
+        ordered.insert(RowKey::from_row(alloc, columns, row.as_slice())?, row)?;
     }
     Ok(ordered)
 }
@@ -205,7 +183,7 @@ pub(crate) fn find<'a>(
     if number == 0 {
         return find_by_first(alloc, definition, rows, sought);
     }
-    let columns = key_columns(definition.keys.as_slice(), number);
+    let columns = definition.key_columns(number);
     let found = find_among(alloc, columns, rows, sought)?;
     let columns = order_columns(alloc, definition, number)?;
     by_columns(alloc, columns.as_slice(), found)?
@@ -221,10 +199,10 @@ pub(crate) fn keys_of(
 ) -> Result<Vec<RowKey>, AllocError>
     ensures { IfOk result (λ keys. keys.items ≡ map (values_in (key_columns definition.now.keys 0)) (map (λ r. r.now) found.now)) }
 {
-    let columns = first_key_columns(definition);
+    let columns = definition.first_key_columns();
     let mut keys = Vec::with_capacity(alloc, found.len())?;
     for row in found {
-        keys.push(key_of(alloc, columns, row.as_slice())?)?;
+        keys.push(RowKey::from_row(alloc, columns, row.as_slice())?)?;
     }
     Ok(keys)
 }

@@ -5,13 +5,11 @@
 //! table besides. Nothing is kept when it is dropped.
 #![tactic(auto)]
 
-mod change;
-mod delete;
+mod check;
 mod find;
 mod insert;
+mod limits;
 mod row_key;
-mod rows;
-mod select;
 mod settings;
 mod table;
 mod tables;
@@ -21,5 +19,3 @@ pub use tables::Tables;
 
 #[cfg(test)]
 mod tests;
-#[cfg(test)]
-mod tests_by_key;

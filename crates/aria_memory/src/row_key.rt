@@ -1,16 +1,37 @@
-ghost use Rattle.std.specs.Prelude.{◌≡◌, refl};
+ghost use Rattle.std.specs.Prelude.{◌≡◌, refl, IfOk};
 ghost use Rattle.std.specs.Cmp.{eq_by_cmp_equiv, partial_equiv_from_equiv, po};
 ghost use Rattle.std.specs.Cmp.Lexicographic.{lists_total};
 ghost use Rattle.std.specs.Ordering.{as_partial_cmp, eq_by_cmp};
 ghost use Rattle.aria_value.specs.ValueOrder.{value_total};
-ghost use Rattle.aria_memory.specs.Keyed.{values_cmp};
+ghost use Rattle.aria_value.specs.Order.{value_at};
+ghost use Rattle.aria_memory.specs.Keyed.{values_cmp, values_in};
 
-use crate::rows::copies;
 use aria_page::List;
 use aria_value::Value;
 use std::alloc::{AllocError, Global};
 use std::cmp::Ordering;
 use std::marker::Model;
+
+// A copy of the value that a row has in a column.
+fn value_at(alloc: Global, row: &[Value], column: u8) -> Result<Value, AllocError>
+    ensures { IfOk result (λ value. value ≡ value_at row.now column) }
+{
+    match row.get(column as usize) {
+        Some(value) => value.copy(alloc),
+        None => Ok(Value::Null),
+    }
+}
+
+// Copies of values.
+fn copies(alloc: Global, values: &[Value]) -> Result<List<Value>, AllocError>
+    ensures { IfOk result (λ copies. copies ≡ values.now) }
+{
+    let mut copies = Vec::with_capacity(alloc, values.len())?;
+    for value in values {
+        copies.push(value.copy(alloc)?)?;
+    }
+    Ok(List::from_vec(copies))
+}
 
 /// The values of a row in the columns of a key. Contracts see the list of them. The first of two keys is the one with
 /// the lesser value in the first column in which they differ.
@@ -29,8 +50,6 @@ impl Model for RowKey {
 }
 
 impl RowKey {
-    ghost use Rattle.std.specs.Prelude.{IfOk};
-
     /// The key of these values.
     pub(crate) fn new(values: List<Value>) -> RowKey
         ensures { result ≡ values }
@@ -42,6 +61,21 @@ impl RowKey {
         ensures { result.now ≡ self.now }
     {
         self.values.as_slice()
+    }
+
+    /// The key of copies of the values that a row has in these columns.
+    pub(crate) fn from_row(
+        alloc: Global,
+        columns: &[u8],
+        row: &[Value],
+    ) -> Result<RowKey, AllocError>
+        ensures { IfOk result (λ key. key ≡ values_in columns.now row.now) }
+    {
+        let mut values = Vec::with_capacity(alloc, columns.len())?;
+        for column in columns {
+            values.push(value_at(alloc, row, *column)?)?;
+        }
+        Ok(RowKey::new(List::from_vec(values)))
     }
 
     /// The key of copies of these values.

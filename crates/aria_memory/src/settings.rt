@@ -6,10 +6,11 @@ ghost use Rattle.std.specs.Option.{option_map, unwrap_or};
 ghost use Rattle.aria_value.specs.Defined.{same_name};
 ghost use Rattle.aria_model.specs.Step.{unknown_column, may_set, bad_setting};
 ghost use Rattle.aria_memory.specs.LastSet.{AreLastSet, with_set};
+ghost use Rattle.aria_memory.specs.Stopping.{refusal_of};
 
 use aria_model::{Refusal, Setting};
 use aria_page::{List, Name};
-use aria_value::{Column, Definition, Row, Value, first_key_columns, may_hold};
+use aria_value::{Column, Definition, Row, Value};
 use std::alloc::{AllocError, Global};
 
 // The number of the column of a name.
@@ -25,17 +26,17 @@ fn has_column(columns: &[Column], name: Name) -> bool
     columns.iter().any(|column| column.name == name)
 }
 
-/// The refusal of the first column set that the table hasn't.
-pub(crate) fn unknown_column(columns: &[Column], settings: &[Setting]) -> Option<Refusal>
-    ensures { result ≡ unknown_column columns.now settings.now }
+/// Refused where a column is set that the table hasn't.
+pub(crate) fn has_columns(columns: &[Column], settings: &[Setting]) -> Result<(), Refusal>
+    ensures { refusal_of result ≡ unknown_column columns.now settings.now }
 {
     for setting in settings {
         let name = setting.column;
         if !has_column(columns, name) {
-            return Some(Refusal::NoColumn { name });
+            return Err(Refusal::NoColumn { name });
         }
     }
-    None
+    Ok(())
 }
 
 // Whether the column of the name, if there is one, may hold the value.
@@ -44,7 +45,7 @@ fn may_set(columns: &[Column], keyed: &[u8], name: Name, value: &Value) -> bool
 {
     for (nth, column) in columns.iter().enumerate() {
         if column.name == name {
-            return may_hold(keyed, nth, column.kind, value);
+            return column.may_hold(nth, keyed, value);
         }
     }
     true
@@ -55,7 +56,7 @@ pub(crate) fn bad_setting(definition: &Definition, settings: &[Setting]) -> Opti
     ensures { result ≡ bad_setting definition.now settings.now }
 {
     let columns = definition.columns.as_slice();
-    let keyed = first_key_columns(definition);
+    let keyed = definition.first_key_columns();
     for setting in settings {
         if !may_set(columns, keyed, setting.column, &setting.value) {
             return Some(setting.column);

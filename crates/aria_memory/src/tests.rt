@@ -1,6 +1,8 @@
 ghost use Rattle.std.specs.Prelude.{IfOk};
 ghost use Rattle.aria_value.specs.Defined.{IsDefinition};
 
+mod by_key;
+
 use crate::tables::Tables;
 use aria_model::{Refusal, Reply, Setting, Statement};
 use aria_page::{Bytes, List, Name};

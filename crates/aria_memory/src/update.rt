@@ -10,47 +10,49 @@ ghost use Rattle.aria_value.specs.Defined.{is_definition};
 ghost use Rattle.aria_value.specs.Order.{key_columns};
 ghost use Rattle.aria_model.specs.Step.{first_of, bad_value, unknown_column, bad_sought, bad_setting, set_refusal};
 ghost use Rattle.aria_memory.specs.Keyed.{values_cmp, values_in, are_keyed};
+ghost use Rattle.aria_memory.specs.Stopping.{refusal_of, EndsBy};
 ghost use Rattle.aria_memory.specs.Updated.{change_of, IsSet, IsUpdated, put_back, taken_back};
 
-use crate::change::{Change, Done};
+use crate::check::duplicate;
 use crate::find::bad_sought;
+use crate::limits::holds_values;
 use crate::row_key::RowKey;
-use crate::rows::{duplicate, key_of};
-use crate::settings::{bad_setting, last_set, set_row, unknown_column};
-use aria_model::{Refusal, Setting};
-use aria_value::{Definition, Row, Value, first_key_columns, is_too_long, key_columns};
+use crate::settings::{bad_setting, has_columns, last_set, set_row};
+use aria_model::{Refusal, Setting, Stopped};
+use aria_value::{Definition, Row, Value, is_too_long};
 use std::alloc::{AllocError, Global};
 use std::collections::BTreeMap;
 
-/// The first refusal of an update before its rows are looked at: a column that isn't there, a value that may not be
-/// sought by the key, or a value that its column may not hold.
-pub(crate) fn bad_update(
+/// A row to change: its key, and what becomes of it.
+#[derive(Drop)]
+pub struct Change {
+    pub(crate) key: RowKey,
+    pub(crate) row: Row,
+}
+
+/// A change that was made: the key of the changed row, and the entry that was taken out for it.
+#[derive(Drop)]
+pub struct Done {
+    pub(crate) key: RowKey,
+    pub(crate) was: Option<(RowKey, Row)>,
+}
+
+/// Refused where a column that is set isn't there, a value may not be sought by the key, or a column may not hold what
+/// it is set to.
+pub(crate) fn check_update(
     definition: &Definition,
     number: usize,
     sought: &[Value],
     settings: &[Setting],
-) -> Option<Refusal>
+) -> Result<(), Refusal>
     requires defined { IsTrue (is_definition definition.now) }
     requires number { number < length definition.now.keys }
-    ensures { result ≡ first_of (unknown_column definition.now.columns settings.now ∷ bad_value (bad_sought definition.now.columns [] (key_columns definition.now.keys number) sought.now) ∷ bad_value (bad_setting definition.now settings.now) ∷ []) }
+    ensures { refusal_of result ≡ first_of (unknown_column definition.now.columns settings.now ∷ bad_value (bad_sought definition.now.columns [] (key_columns definition.now.keys number) sought.now) ∷ bad_value (bad_setting definition.now settings.now) ∷ []) }
 {
     let columns = definition.columns.as_slice();
-    match unknown_column(columns, settings) {
-        Some(why) => return Some(why),
-        None => {}
-    }
-    match bad_sought(
-        columns,
-        key_columns(definition.keys.as_slice(), number),
-        sought,
-    ) {
-        Some(column) => return Some(Refusal::BadValue { column }),
-        None => {}
-    }
-    match bad_setting(definition, settings) {
-        Some(column) => Some(Refusal::BadValue { column }),
-        None => None,
-    }
+    has_columns(columns, settings)?;
+    holds_values(bad_sought(columns, definition.key_columns(number), sought))?;
+    holds_values(bad_setting(definition, settings))
 }
 
 /// The changes that the settings make of these rows.
@@ -66,7 +68,7 @@ pub(crate) fn changes_of(
     let mut changes = Vec::with_capacity(alloc, found.len())?;
     for row in found {
         let change = Change {
-            key: key_of(alloc, first_key_columns(definition), row.as_slice())?,
+            key: RowKey::from_row(alloc, definition.first_key_columns(), row.as_slice())?,
             row: set_row(alloc, sets.as_slice(), row.as_slice())?,
         };
         changes.push(change)?;
@@ -81,26 +83,26 @@ fn is_taken(rows: &BTreeMap<RowKey, Row>, old: &RowKey, key: &RowKey) -> bool
     *key != *old && rows.contains_key(key)
 }
 
-// The first refusal of a change that gives its row this key, beside the other rows.
-fn change_refusal(
+// Refused where a change that gives its row this key may not be made beside the other rows.
+fn check_change(
     definition: &Definition,
     rows: &BTreeMap<RowKey, Row>,
     key: &RowKey,
     change: &Change,
-) -> Option<Refusal>
+) -> Result<(), Refusal>
     requires defined { IsTrue (is_definition definition.now) }
     requires keyed { IsTrue (are_keyed definition.now rows.now.entries) }
     requires ordered { IsOrdered values_cmp rows.now }
     requires key { key.now ≡ values_in (key_columns definition.now.keys 0) change.now.row }
-    ensures { result ≡ set_refusal definition.now None 1 (values_of (remove_entry (is_at (values_cmp change.now.key)) rows.now.entries)) change.now.row }
+    ensures { refusal_of result ≡ set_refusal definition.now None 1 (values_of (remove_entry (is_at (values_cmp change.now.key)) rows.now.entries)) change.now.row }
 {
     if is_too_long(change.row.as_slice()) {
-        return Some(Refusal::RowTooLong);
+        return Err(Refusal::RowTooLong);
     }
     if is_taken(rows, &change.key, key) {
-        return Some(duplicate(definition));
+        return Err(duplicate(definition));
     }
-    None
+    Ok(())
 }
 
 // Puts a changed row in the place of the row of the old key, which is handed back with its key.
@@ -128,26 +130,23 @@ fn set_rows(
     rows: &mut BTreeMap<RowKey, Row>,
     changes: Vec<Change>,
     done: &mut Vec<Done>,
-) -> Result<Option<Refusal>, AllocError>
+) -> Result<(), Stopped>
     requires defined { IsTrue (is_definition definition.now) }
     requires keyed { IsTrue (are_keyed definition.now rows.old.entries) }
     requires ordered { IsOrdered values_cmp rows.old }
     requires none { done.old.items ≡ [] }
-    ensures sets { IfOk result (λ refusal. IsSet definition.now changes.items (values rows.old) (values rows.new) refusal) }
+    ensures sets { EndsBy result (λ refusal. IsSet definition.now changes.items (values rows.old) (values rows.new) refusal) }
     ensures keyed_still { IsTrue (are_keyed definition.now rows.new.entries) }
-    ensures undo { OnOk result (taken_back done.new.items rows.new.entries ≡ rows.old.entries) }
+    ensures undo { EndsBy result (λ _. taken_back done.new.items rows.new.entries ≡ rows.old.entries) }
 {
     for change in changes {
-        let key = key_of(alloc, first_key_columns(definition), change.row.as_slice())?;
-        match change_refusal(definition, rows, &key, &change) {
-            Some(why) => return Ok(Some(why)),
-            None => {}
-        }
+        let key = RowKey::from_row(alloc, definition.first_key_columns(), change.row.as_slice())?;
+        check_change(definition, rows, &key, &change)?;
         let put = key.copy(alloc)?;
         let was = replace(rows, key, change)?;
         done.push(Done { key: put, was })?;
     }
-    Ok(None)
+    Ok(())
 }
 
 // Takes one change back. Without memory the old row is lost.
@@ -187,24 +186,24 @@ fn undo(rows: &mut BTreeMap<RowKey, Row>, done: Vec<Done>) -> Result<(), AllocEr
     back
 }
 
-/// Makes the changes, or none of them: then it answers the first refusal. After an `Err`, for want of memory, the rows
-/// may be any, and no more may be asked of them.
+/// Makes the changes, or none of them: then it answers the first refusal. After want of memory the rows may be any, and
+/// no more may be asked of them.
 pub(crate) fn update_all(
     alloc: Global,
     definition: &Definition,
     rows: &mut BTreeMap<RowKey, Row>,
     changes: Vec<Change>,
-) -> Result<Option<Refusal>, AllocError>
+) -> Result<(), Stopped>
     requires defined { IsTrue (is_definition definition.now) }
     requires keyed { IsTrue (are_keyed definition.now rows.old.entries) }
     requires ordered { IsOrdered values_cmp rows.old }
-    ensures updates { IfOk result (λ refusal. IsUpdated definition.now changes.items (values rows.old) (values rows.new) refusal) }
+    ensures updates { EndsBy result (λ refusal. IsUpdated definition.now changes.items (values rows.old) (values rows.new) refusal) }
     ensures keyed_still { IsTrue (are_keyed definition.now rows.new.entries) }
 {
     let mut done = Vec::with_capacity(alloc, changes.len())?;
-    let refusal = set_rows(alloc, definition, rows, changes, &mut done)?;
-    if refusal.is_some() {
+    let set = set_rows(alloc, definition, rows, changes, &mut done);
+    if matches!(set, Err(Stopped::Refused(_))) {
         undo(rows, done)?;
     }
-    Ok(refusal)
+    set
 }

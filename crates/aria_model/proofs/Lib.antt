@@ -14,6 +14,7 @@ pub mod Lines
 pub mod Scripts
 pub mod Clipping
 pub mod OneLine
+mod Quotes
 pub mod Acknowledged
 pub mod Journal
 pub mod Worlds

@@ -7,6 +7,8 @@ use Rattle.aria_value.specs.declared.definition.ColumnType.TheVariants as kinds
 use Rattle.aria_value.specs.declared.definition.Definition.{Definition}
 use Rattle.aria_value.specs.declared.definition.ColumnType.{ColumnType}
 use Rattle.aria_value.specs.declared.definition.Key.{Key}
+use Rattle.aria_value.specs.Named.{nth_named}
+pub use Rattle.aria_value.specs.Named.{option_suc}
 use Rattle.aria_value.specs.Defined.{same_name, distinct, is_type, are_keys, entries_fit, IsDefinition}
 use Rattle.aria_model.specs.declared.refusal.Which.{Which}
 use Rattle.aria_model.specs.declared.refusal.Which.TheVariants.{MaxRows, Columns, Kind, Keys, Entry}
@@ -208,15 +210,9 @@ max_rows ((at, Word word) ∷ (behind, Sign found) ∷ ts) =
 max_rows ((at, Word word) ∷ ts) = if same_name word (codes "max_rows") then row_limit ts else Ok (pos 16777216, (at, Word word) ∷ ts)
 max_rows ts = Ok (pos 16777216, ts)
 
--- one more than a number
-abbrev pub option_suc : Option ℕ → Option ℕ
-option_suc None = None
-option_suc (Some n) = Some (suc n)
-
 -- the number of the column of a name
 abbrev pub column_number : List WrittenColumn → List ℕ → Option ℕ
-column_number [] wanted = None
-column_number (c ∷ cs) wanted = if same_name c.0 wanted then Some 0 else option_suc (column_number cs wanted)
+column_number columns wanted = nth_named (λ c. c.0) columns wanted
 
 abbrev pub onto_numbers : Option ℕ → Option (List ℕ) → Option (List ℕ)
 onto_numbers None ns = None

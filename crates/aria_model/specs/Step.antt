@@ -1,12 +1,14 @@
 -- What a statement does to the tables, and what it answers.
-use Rattle.std.specs.Prelude.{ℕ, zero, suc, ◌+◌, Bool, true, false, not, ◌==◌, nat_lt, nat_le, ◌&&◌, if◌then◌else◌, List, [], ◌∷◌, length, filter, Option, Some, None, Result, Ok, Err}
+use Rattle.std.specs.Prelude.{ℕ, zero, suc, ◌+◌, Bool, true, false, not, ◌==◌, nat_lt, nat_le, if◌then◌else◌, List, [], ◌∷◌, length, filter, Option, Some, None, Result, Ok, Err}
 use Rattle.std.specs.List.{list_any}
 use Rattle.std.specs.Ordering.{is_eq}
 use Rattle.aria_value.specs.declared.value.Value.{Value}
 use Rattle.aria_value.specs.declared.definition.Column.{Column}
 use Rattle.aria_value.specs.declared.definition.Key.{Key}
 use Rattle.aria_value.specs.declared.definition.Definition.{Definition}
-use Rattle.aria_value.specs.Defined.{same_name, kind_at}
+use Rattle.aria_value.specs.Named.{same_name, nth_named}
+pub use Rattle.aria_value.specs.Named.{option_suc}
+use Rattle.aria_value.specs.Defined.{kind_at}
 use Rattle.aria_value.specs.Order.{key_columns, key_cmp, put, sorted, has_values}
 use Rattle.aria_value.specs.Rows.{may_hold}
 use Rattle.aria_value.specs.Entry.{has_type}
@@ -131,14 +133,9 @@ insert world name rows exception = elim (world name) [
   | Some table ↦ insert_into world name table table.content rows exception
 ]
 
-abbrev pub option_suc : Option ℕ → Option ℕ
-option_suc None = None
-option_suc (Some n) = Some (suc n)
-
 -- the number of the key of a name
 abbrev pub key_number : List Key → List ℕ → Option ℕ
-key_number [] wanted = None
-key_number (key ∷ keys) wanted = if same_name key.name wanted then Some 0 else option_suc (key_number keys wanted)
+key_number keys wanted = nth_named (λ key. key.name) keys wanted
 
 -- The log has no room for a change of this table.
 abbrev pub spent_for : Table → Option Exception → Option Refusal

@@ -1,5 +1,5 @@
 -- How rows and replies are spelled.
-use Rattle.std.specs.Prelude.{◌≡◌, ℕ, Bool, false, ◌&&◌, ◌==◌, nat_le, if◌then◌else◌, List, [], ◌∷◌, ◌++◌, codes, decimal, ◌+◌, ◌/◌, ◌%◌, nat_lt}
+use Rattle.std.specs.Prelude.{◌≡◌, ℕ, Bool, false, ◌&&◌, ◌==◌, nat_le, if◌then◌else◌, List, [], ◌∷◌, ◌++◌, codes, decimal, ◌+◌, ◌/◌, ◌%◌, ◌<◌, nat_lt, length}
 use Rattle.std.specs.List.{list_all, list_any, flat_map, join_by}
 use Rattle.std.specs.Fmt.{signed_decimal}
 use Rattle.aria_value.specs.declared.value.Value.{Value}
@@ -18,6 +18,11 @@ is_printed b = nat_le 32 b && nat_le b 126
 -- a byte of a text between quotes, where a quote is doubled
 abbrev pub quoted : ℕ → List ℕ
 quoted b = if b == 39 then 39 ∷ 39 ∷ [] else b ∷ []
+
+-- bytes are a run, a quote, and what is behind it, and between quotes the run stands as it is
+pub record CutsAtQuote (bytes run behind : List ℕ) : Type 0 where
+  pub whole : flat_map quoted bytes ≡ run ++ (39 ∷ 39 ∷ flat_map quoted behind)
+  pub less : length behind < length bytes
 
 -- a hexadecimal digit, in lower case
 abbrev pub hex_digit : ℕ → ℕ

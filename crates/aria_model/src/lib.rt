@@ -10,11 +10,13 @@
 mod refusal;
 mod reply;
 mod statement;
+mod stopped;
 mod text;
 
 pub use refusal::{Exception, Met, Refusal, Which};
 pub use reply::Reply;
 pub use statement::{MAX_LINE_BYTES, MAX_STATEMENT_ROWS, Setting, Statement};
+pub use stopped::Stopped;
 pub use text::{push_reply_text, push_row_text, reply_text, row_text};
 
 #[cfg(test)]

@@ -1,11 +1,11 @@
 //! How rows and replies are spelled (docs/LANGUAGE.md, "Replies").
 
-ghost use Rattle.std.specs.Prelude.{◌≡◌, ◌<◌, ◌++◌, decimal, codes, OnOk, IfOk};
-ghost use Rattle.std.specs.List.{list_all, flat_map, join_by};
+ghost use Rattle.std.specs.Prelude.{◌≡◌, ◌<◌, ◌==◌, ◌++◌, decimal, codes, OnOk, IfOk, MatchOption};
+ghost use Rattle.std.specs.List.{list_all, flat_map, join_by, position};
 ghost use Rattle.std.specs.Fmt.{signed_decimal};
 ghost use Rattle.aria_value.specs.declared.value.Value.TheVariants.{Text};
 ghost use Rattle.aria_model.specs.declared.reply.Reply.TheVariants.{Count, No};
-ghost use Rattle.aria_model.specs.Text.{is_printed, quoted, hex_digit, hex, value_text, which_text, refusal_text, row_text as row_spelled, reply_text as reply_spelled, HasNoLineEnd, IsOneLine};
+ghost use Rattle.aria_model.specs.Text.{is_printed, quoted, CutsAtQuote, hex_digit, hex, value_text, which_text, refusal_text, row_text as row_spelled, reply_text as reply_spelled, HasNoLineEnd, IsOneLine};
 
 use crate::refusal::{Refusal, Which};
 use crate::reply::Reply;
@@ -34,23 +34,30 @@ fn all_printed(bytes: &[u8]) -> bool
     bytes.iter().all(|byte| matches!(*byte, b' '..=b'~'))
 }
 
-fn push_quoted_byte(out: &mut Bytes, byte: u8) -> Result<(), AllocError>
-    ensures { OnOk result (out.new ≡ out.old ++ quoted byte) }
+fn first_quote(bytes: &[u8]) -> Option<usize>
+    ensures { result ≡ position (λ b. b == 39) bytes.now }
 {
-    if byte == b'\'' {
-        out.extend_from_slice(b"''")
-    } else {
-        out.push(byte)
-    }
+    bytes.iter().position(|byte| *byte == b'\'')
 }
 
+// The bytes in front of the first quote, and those behind it.
+fn cut_at_quote(bytes: &[u8]) -> Option<(&[u8], &[u8])>
+    ensures { MatchOption result (flat_map quoted bytes.now ≡ bytes.now) (λ parts. CutsAtQuote bytes.now parts.0.now parts.1.now) }
+{
+    let at = first_quote(bytes)?;
+    Some((&bytes[..at], &bytes[at + 1..]))
+}
+
+// A text is told run by run between its quotes, since most have none.
 fn push_quoted(out: &mut Bytes, bytes: &[u8]) -> Result<(), AllocError>
     ensures { OnOk result (out.new ≡ out.old ++ flat_map quoted bytes.now) }
 {
-    for byte in bytes {
-        push_quoted_byte(out, *byte)?;
+    let mut rest = bytes;
+    while let Some((run, behind)) = cut_at_quote(rest) {
+        push_both(out, run, b"''")?;
+        rest = behind;
     }
-    Ok(())
+    out.extend_from_slice(rest)
 }
 
 fn hex_digit(digit: u8) -> u8

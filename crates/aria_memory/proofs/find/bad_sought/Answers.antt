@@ -9,8 +9,8 @@ pub loop-nth-init : goal.loop-nth-init
 loop-nth-init c =
     bad_sought-last c.args.columns.now (slice_index_or c.args.columns.now (slice_index_or c.args.key.now 0 0) c.index-columns-key.result).name [] c.args.key.now c.args.values.now c.requires.some
 
-pub returns-then-not-may_seek : goal.returns-then-not-may_seek
-returns-then-not-may_seek c =
+pub returns-then-not-is_type_of : goal.returns-then-not-is_type_of
+returns-then-not-is_type_of c =
     let columns = c.args.columns.now in
     let key = c.args.key.now in
     let values = c.args.values.now in
@@ -20,7 +20,7 @@ returns-then-not-may_seek c =
     let value = c.index-values-nth.result in
     let low = c.in-Some.ensures.lookup.3.0 in
     let at = sym c.in-Some.ensures.lookup.1 in
-    let refused : has_type column.kind value ≡ false = cc (c.may_seek.ensures, c.if-not-may_seek.true) in
+    let refused : has_type column.kind value ≡ false = cc (c.is_type_of.ensures, c.if-not-is_type_of.true) in
     let next = bad_sought-next columns c.loop-nth.last key values nth number value column low c.loop-nth-test.true at (sym c.index-values-nth.is)
     (column_within columns key nth number c.requires.within low at) (sym c.index-columns-number.is) in
     sym (next ∙ ap (λ b. cond b (bad_sought columns column.name (drop (nth + 1) key) (drop (nth + 1) values)) (Some column.name)) refused) ∙ c.loop-nth.invariant
@@ -36,7 +36,7 @@ loop-nth-preserved c =
     let value = c.index-values-nth.result in
     let low = c.in-Some.ensures.lookup.3.0 in
     let at = sym c.in-Some.ensures.lookup.1 in
-    let passed : has_type column.kind value ≡ true = cc (c.may_seek.ensures, c.if-not-may_seek.false) in
+    let passed : has_type column.kind value ≡ true = cc (c.is_type_of.ensures, c.if-not-is_type_of.false) in
     let next = bad_sought-next columns c.loop-nth.last key values nth number value column low c.loop-nth-test.true at (sym c.index-values-nth.is)
     (column_within columns key nth number c.requires.within low at) (sym c.index-columns-number.is) in
     sym (next ∙ ap (λ b. cond b (bad_sought columns column.name (drop (nth + 1) key) (drop (nth + 1) values)) (Some column.name)) passed) ∙ c.loop-nth.invariant

@@ -29,7 +29,7 @@ loop-row-preserved c =
     let alike = (λ (a b : Bor (List Value)). columns_values columns a.now b.now) in
     let row = c.in-Some.row in
     let old = c.loop-row.ordered.entries in
-    let at : c.in_ok-key_of.field-0 ≡ key row = c.in_ok-key_of.ensures ∙ ap (values_in columns) c.as_slice.ensures in
+    let at : c.in_ok-from_row.field-0 ≡ key row = c.in_ok-from_row.ensures ∙ ap (values_in columns) c.as_slice.ensures in
     let entries : c.insert.new.self.entries ≡ insert_entry values_cmp old (key row) row =
     c.in_ok-insert.ensures.entries ∙ ap (λ (k : List Value). insert_entry values_cmp old k row) at in
     record {

@@ -20,7 +20,7 @@ returns-in_err-insert-clause-undo c =
     let row = c.in-Some.row in
     let old = c.loop-row.rows.entries in
     let at : key ≡ values_in (key_columns d.keys 0) row = c.in_ok-key.ensures ∙ (λ i. values_in (c.first_key_columns.ensures i) (c.as_slice.ensures i)) in
-    let fits : row_refusal d None 1 (values_of old) row ≡ None = sym c.row_refusal.ensures ∙ c.in-None-row_refusal.is in
+    let fits : row_refusal d None 1 (values_of old) row ≡ None = sym c.in_ok-check_row.ensures in
     let fresh : lookup (is_at (values_cmp key)) old ≡ None = fresh_key d old key row c.loop-row.invariant.keyed at fits in
     ap (λ keys. undone values_cmp keys c.insert.new.self.entries) (c.in_ok-push.ensures.items ∙ ap (λ (k : List Value). c.loop-row.put.items ++ k ∷ []) c.in_ok-copy.ensures)
     ∙ ap (undone values_cmp (c.loop-row.put.items ++ key ∷ [])) c.in_err-insert.ensures.err
@@ -35,7 +35,7 @@ loop-row-preserved c =
     let old = c.loop-row.rows.entries in
     let more = into_iter_items c.next.new.self in
     let at : key ≡ values_in (key_columns d.keys 0) row = c.in_ok-key.ensures ∙ (λ i. values_in (c.first_key_columns.ensures i) (c.as_slice.ensures i)) in
-    let fits : row_refusal d None 1 (values_of old) row ≡ None = sym c.row_refusal.ensures ∙ c.in-None-row_refusal.is in
+    let fits : row_refusal d None 1 (values_of old) row ≡ None = sym c.in_ok-check_row.ensures in
     let fresh : lookup (is_at (values_cmp key)) old ≡ None = fresh_key d old key row c.loop-row.invariant.keyed at fits in
     let entries : c.insert.new.self.entries ≡ insert_entry values_cmp old key row = c.in_ok-insert.ensures.entries in
     record {
@@ -58,7 +58,7 @@ loop-row-preserved-in_ok-insert c =
     let old = c.loop-row.rows.entries in
     let more = into_iter_items c.next.new.self in
     let at : key ≡ values_in (key_columns d.keys 0) row = c.in_ok-key.ensures ∙ (λ i. values_in (c.first_key_columns.ensures i) (c.as_slice.ensures i)) in
-    let fits : row_refusal d None 1 (values_of old) row ≡ None = sym c.row_refusal.ensures ∙ c.in-None-row_refusal.is in
+    let fits : row_refusal d None 1 (values_of old) row ≡ None = sym c.in_ok-check_row.ensures in
     let fresh : lookup (is_at (values_cmp key)) old ≡ None = fresh_key d old key row c.loop-row.invariant.keyed at fits in
     let entries : c.insert.new.self.entries ≡ insert_entry values_cmp old key row = c.in_ok-insert.ensures.entries in
     record {

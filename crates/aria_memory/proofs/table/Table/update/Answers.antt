@@ -1,135 +1,143 @@
-use Rattle.std.proofs.Common.{◌≡◌, arith, length, map, sym, ap, ◌∙◌, lt-ltb, le-ltb}
-use Rattle.std.specs.Prelude.{None, Some, true, false, cond, nat_lt}
-use Rattle.std.specs.Option.{is_some, option_map}
+use Rattle.std.proofs.Common.{◌≡◌, length, map, sym, ap, ◌∙◌}
+use Rattle.std.specs.Prelude.{None, Some, false, nat_lt}
+use Rattle.std.specs.Option.{option_map}
 use Rattle.std.specs.BTreeMap.{values}
 use Rattle.std.proofs.lemmas.List.{length-map}
 use Rattle.aria_model.specs.declared.refusal.Exception.TheVariants.{Spent}
-use Rattle.aria_model.specs.declared.refusal.Refusal.TheVariants.{NoKey, TooManyRows, LogSpent}
 use Rattle.aria_model.specs.declared.reply.Reply.TheVariants.{Count}
 use Rattle.aria_model.specs.World.{with_table}
-use Rattle.aria_model.specs.Step.{spent, key_number, concerned, set_all, update}
+use Rattle.aria_model.specs.Step.{refused, concerned, set_all, update}
 use Rattle.aria_memory.specs.Worlds.{table_of}
 use Rattle.aria_memory.specs.Updated.{change_of}
 use Rattle.aria_memory.proofs.KeyNumbers.{number_within}
 use Rattle.aria_memory.proofs.Outcomes.{sound}
+use Rattle.std.proofs.lemmas.Result.{err_from_is_err_and}
+use Rattle.aria_memory.proofs.Stopping.{ends_replies, passes, stops, no_exception}
 use Rattle.aria_memory.proofs.Updates.{bad_first, leaves_same, update_keyless, update_is, update_many, update_spent, update_refused, update_set}
 use Rattle.aria_memory.proofs.table.Table.update.Goals as goal
 
-pub returns-in-None : goal.returns-in-None
-returns-in-None c = λ world name has.
+pub returns-in_err-number : goal.returns-in_err-number
+returns-in_err-number c =
+    let p = err_from_is_err_and c.from_residual.result c.from_residual.ensures.1 in
+    rw (p.1, p.2) (λ world name has.
     let table = c.args.self.now in
     let exception = option_map Spent c.args.spent in
-    let none : key_number table.definition.keys c.args.key ≡ None = ap (λ keys. key_number keys c.args.key) (sym c.as_slice.ensures) ∙ sym c.key_number.ensures ∙ c.in-None.is in
-    leaves_same world name (table_of table) (update world name c.args.key c.args.sought.now c.args.settings.now exception) (NoKey c.args.key) has
-    (update_keyless world name table.definition (values table.rows) c.args.key c.args.sought.now c.args.settings.now exception has none)
+    leaves_same world name (table_of table) (update world name c.args.key c.args.sought.now c.args.settings.now exception) _ has
+    (update_keyless world name table.definition (values table.rows) c.args.key c.args.sought.now c.args.settings.now exception has c.in_err-number.ensures.none.1
+    ∙ ap (refused world) (sym c.in_err-number.ensures.none.0)))
 
-pub bad_update-requires-clause-number : goal.bad_update-requires-clause-number
-bad_update-requires-clause-number c =
-    let keys = c.args.self.now.definition.keys in
-    number_within keys c.args.key c.in-Some.number (ap (λ ks. key_number ks c.args.key) (sym c.as_slice.ensures) ∙ sym c.key_number.ensures ∙ c.in-Some.is)
+pub check_update-requires-clause-number : goal.check_update-requires-clause-number
+check_update-requires-clause-number c = number_within c.args.self.now.definition.keys c.args.key c.in_ok-number.number c.in_ok-number.ensures.found
 
-pub returns-in-Some-bad_update : goal.returns-in-Some-bad_update
-returns-in-Some-bad_update c = λ world name has.
-    let table = c.args.self.now in
-    let rows = values table.rows in
-    let number = c.in-Some.number in
-    let exception = option_map Spent c.args.spent in
-    let is : key_number table.definition.keys c.args.key ≡ Some number = ap (λ keys. key_number keys c.args.key) (sym c.as_slice.ensures) ∙ sym c.key_number.ensures ∙ c.in-Some.is in
-    let bad : bad_first table.definition c.args.sought.now c.args.settings.now number ≡ Some c.in-Some-bad_update.why = sym c.bad_update.ensures ∙ c.in-Some-bad_update.is in
-    leaves_same world name (table_of table) (update world name c.args.key c.args.sought.now c.args.settings.now exception) c.in-Some-bad_update.why has
-    (update_is world name table.definition rows c.args.key c.args.sought.now c.args.settings.now exception number (Some c.in-Some-bad_update.why)
-    (concerned table.definition number c.args.sought.now rows) has is bad (λ i. concerned table.definition number c.args.sought.now rows))
-
-pub returns-then-count-gt-MAX_STATEMENT_ROWS : goal.returns-then-count-gt-MAX_STATEMENT_ROWS
-returns-then-count-gt-MAX_STATEMENT_ROWS c = λ world name has.
+pub returns-in_err-check_update : goal.returns-in_err-check_update
+returns-in_err-check_update c =
+    let p = err_from_is_err_and c.from_residual-in_err-check_update.result c.from_residual-in_err-check_update.ensures.1 in
+    rw (p.1, p.2) (λ world name has.
     let table = c.args.self.now in
     let d = table.definition in
     let rows = values table.rows in
-    let number = c.in-Some.number in
+    let number = c.in_ok-number.number in
+    let exception = option_map Spent c.args.spent in
+    let why = c.in_err-check_update.field-0.0 in
+    leaves_same world name (table_of table) (update world name c.args.key c.args.sought.now c.args.settings.now exception) why has
+    (update_is world name d rows c.args.key c.args.sought.now c.args.settings.now exception number (Some why)
+    (concerned d number c.args.sought.now rows) has c.in_ok-number.ensures.found (sym c.in_err-check_update.ensures) (λ i. concerned d number c.args.sought.now rows)))
+
+pub returns-in_err-few_enough : goal.returns-in_err-few_enough
+returns-in_err-few_enough c =
+    let p = err_from_is_err_and c.from_residual-in_err-few_enough.result c.from_residual-in_err-few_enough.ensures.1 in
+    rw (p.1, p.2) (λ world name has.
+    let table = c.args.self.now in
+    let d = table.definition in
+    let rows = values table.rows in
+    let number = c.in_ok-number.number in
     let sought = c.args.sought.now in
     let settings = c.args.settings.now in
     let exception = option_map Spent c.args.spent in
     let all = concerned d number sought rows in
-    let is : key_number d.keys c.args.key ≡ Some number = ap (λ keys. key_number keys c.args.key) (sym c.as_slice.ensures) ∙ sym c.key_number.ensures ∙ c.in-Some.is in
-    let none : bad_first d sought settings number ≡ None = sym c.bad_update.ensures ∙ c.in-None-bad_update.is in
+    let is = c.in_ok-number.ensures.found in
+    let none : bad_first d sought settings number ≡ None = sym c.in_ok-check_update.ensures in
     let size : length all ≡ length c.as_slice-count.result.now =
     ap length (sym c.in_ok-found.ensures.found) ∙ length-map c.in_ok-found.found.items _ ∙ ap length (sym c.as_slice-count.ensures.value) in
-    let many : nat_lt 65536 (length all) ≡ true = lt-ltb 65536 (length all) (omega arith) in
-    leaves_same world name (table_of table) (update world name c.args.key sought settings exception) TooManyRows has
+    let why = c.in_err-few_enough.field-0.0 in
+    let many = stops _ _ why c.in_err-few_enough.ensures in
+    leaves_same world name (table_of table) (update world name c.args.key sought settings exception) why has
     (update_is world name d rows c.args.key sought settings exception number None all has is none (λ i. all)
-    ∙ update_many world name d rows settings exception all many)
+    ∙ update_many world name d rows settings exception all (ap (nat_lt 65536) size ∙ many.0)
+    ∙ ap (refused world) many.1))
 
-pub returns-in-Some-spent : goal.returns-in-Some-spent
-returns-in-Some-spent c = λ world name has.
+pub returns-in_err-has_room : goal.returns-in_err-has_room
+returns-in_err-has_room c =
+    let p = err_from_is_err_and c.from_residual-in_err-has_room.result c.from_residual-in_err-has_room.ensures.1 in
+    rw (p.1, p.2) (λ world name has.
     let table = c.args.self.now in
     let d = table.definition in
     let rows = values table.rows in
-    let number = c.in-Some.number in
+    let number = c.in_ok-number.number in
     let sought = c.args.sought.now in
     let settings = c.args.settings.now in
     let exception = option_map Spent c.args.spent in
     let all = concerned d number sought rows in
-    let is : key_number d.keys c.args.key ≡ Some number = ap (λ keys. key_number keys c.args.key) (sym c.as_slice.ensures) ∙ sym c.key_number.ensures ∙ c.in-Some.is in
-    let none : bad_first d sought settings number ≡ None = sym c.bad_update.ensures ∙ c.in-None-bad_update.is in
+    let is = c.in_ok-number.ensures.found in
+    let none : bad_first d sought settings number ≡ None = sym c.in_ok-check_update.ensures in
     let size : length all ≡ length c.as_slice-count.result.now =
     ap length (sym c.in_ok-found.ensures.found) ∙ length-map c.in_ok-found.found.items _ ∙ ap length (sym c.as_slice-count.ensures.value) in
-    let few : nat_lt 65536 (length all) ≡ false = le-ltb 65536 (length all) (omega arith) in
-    leaves_same world name (table_of table) (update world name c.args.key sought settings exception) (LogSpent c.in-Some-spent.file) has
+    let few : nat_lt 65536 (length all) ≡ false = ap (nat_lt 65536) size ∙ passes _ _ c.in_ok-few_enough.ensures in
+    let why = c.in_err-has_room.field-0.0 in
+    leaves_same world name (table_of table) (update world name c.args.key sought settings exception) why has
     (update_is world name d rows c.args.key sought settings exception number None all has is none (λ i. all)
-    ∙ update_spent world name d rows settings exception all (LogSpent c.in-Some-spent.file) few (ap (λ s. spent (option_map Spent s)) c.in-Some-spent.is))
+    ∙ update_spent world name d rows settings exception all why few (sym c.in_err-has_room.ensures)))
 
-pub returns-in-Some-2 : goal.returns-in-Some-2
-returns-in-Some-2 c = λ world name has.
+pub returns-in_err-update_all : goal.returns-in_err-update_all
+returns-in_err-update_all c =
+    let p = err_from_is_err_and c.from_residual-in_err-update_all.result c.from_residual-in_err-update_all.ensures.1 in
+    rw (p.1, p.2) (ends_replies _ _ (λ why updates world name has.
     let table = c.args.self.now in
     let d = table.definition in
     let rows = values table.rows in
-    let number = c.in-Some.number in
+    let number = c.in_ok-number.number in
     let sought = c.args.sought.now in
     let settings = c.args.settings.now in
     let exception = option_map Spent c.args.spent in
     let all = concerned d number sought rows in
-    let is : key_number d.keys c.args.key ≡ Some number = ap (λ keys. key_number keys c.args.key) (sym c.as_slice.ensures) ∙ sym c.key_number.ensures ∙ c.in-Some.is in
-    let none : bad_first d sought settings number ≡ None = sym c.bad_update.ensures ∙ c.in-None-bad_update.is in
+    let is = c.in_ok-number.ensures.found in
+    let none : bad_first d sought settings number ≡ None = sym c.in_ok-check_update.ensures in
     let size : length all ≡ length c.as_slice-count.result.now =
     ap length (sym c.in_ok-found.ensures.found) ∙ length-map c.in_ok-found.found.items _ ∙ ap length (sym c.as_slice-count.ensures.value) in
-    let few : nat_lt 65536 (length all) ≡ false = le-ltb 65536 (length all) (omega arith) in
+    let few : nat_lt 65536 (length all) ≡ false = ap (nat_lt 65536) size ∙ passes _ _ c.in_ok-few_enough.ensures in
+    let room : exception ≡ None = no_exception c.args.spent c.in_ok-has_room.ensures in
     let are : c.in_ok-changes.changes.items ≡ map (change_of d settings) all =
-    c.in_ok-changes.ensures ∙ ap (λ (found : _). map (change_of d settings) (map (λ r. r.now) found)) c.as_slice-2.ensures.value ∙ ap (map (change_of d settings)) c.in_ok-found.ensures.found in
-    let updates = c.in_ok-why.ensures.updates in
-    let refusal : Some c.in-Some-2.why ≡ (set_all d settings None 1 rows all).refusal = sym c.in-Some-2.is ∙ updates.refusal settings all are in
-    let kept : values c.update_all.new.rows ≡ rows =
-    updates.rows settings all are ∙ ap (λ (o : _). cond (is_some o) rows (set_all d settings None 1 rows all).rows) c.in-Some-2.is in
-    let same = leaves_same world name (table_of table) (update world name c.args.key sought settings exception) c.in-Some-2.why has
+    c.in_ok-changes.ensures ∙ ap (λ (found : _). map (change_of d settings) (map (λ r. r.now) found)) c.as_slice.ensures.value ∙ ap (map (change_of d settings)) c.in_ok-found.ensures.found in
+    let refusal : Some why ≡ (set_all d settings None 1 rows all).refusal = updates.refusal settings all are in
+    let same = leaves_same world name (table_of table) (update world name c.args.key sought settings exception) why has
     (update_is world name d rows c.args.key sought settings exception number None all has is none (λ i. all)
-    ∙ update_refused world name d rows settings exception all c.in-Some-2.why few (ap (option_map Spent) c.in-None-spent.is) refusal) in
+    ∙ update_refused world name d rows settings exception all why few room refusal) in
     record {
-      world = ap (λ (told : _). with_table world name (Some (sound d told))) kept ∙ same.world;
+      world = ap (λ (told : _). with_table world name (Some (sound d told))) (updates.rows settings all are) ∙ same.world;
       reply = same.reply;
-    }
+    }) c.in_err-update_all.field-0.0 c.in_err-update_all.ensures.updates)
 
-pub returns-in-None-2 : goal.returns-in-None-2
-returns-in-None-2 c = λ world name has.
+pub returns : goal.returns
+returns c = λ world name has.
     let table = c.args.self.now in
     let d = table.definition in
     let rows = values table.rows in
-    let number = c.in-Some.number in
+    let number = c.in_ok-number.number in
     let sought = c.args.sought.now in
     let settings = c.args.settings.now in
     let exception = option_map Spent c.args.spent in
     let all = concerned d number sought rows in
-    let is : key_number d.keys c.args.key ≡ Some number = ap (λ keys. key_number keys c.args.key) (sym c.as_slice.ensures) ∙ sym c.key_number.ensures ∙ c.in-Some.is in
-    let none : bad_first d sought settings number ≡ None = sym c.bad_update.ensures ∙ c.in-None-bad_update.is in
+    let is = c.in_ok-number.ensures.found in
+    let none : bad_first d sought settings number ≡ None = sym c.in_ok-check_update.ensures in
     let size : length all ≡ length c.as_slice-count.result.now =
     ap length (sym c.in_ok-found.ensures.found) ∙ length-map c.in_ok-found.found.items _ ∙ ap length (sym c.as_slice-count.ensures.value) in
-    let few : nat_lt 65536 (length all) ≡ false = le-ltb 65536 (length all) (omega arith) in
+    let few : nat_lt 65536 (length all) ≡ false = ap (nat_lt 65536) size ∙ passes _ _ c.in_ok-few_enough.ensures in
+    let room : exception ≡ None = no_exception c.args.spent c.in_ok-has_room.ensures in
     let are : c.in_ok-changes.changes.items ≡ map (change_of d settings) all =
-    c.in_ok-changes.ensures ∙ ap (λ (found : _). map (change_of d settings) (map (λ r. r.now) found)) c.as_slice-2.ensures.value ∙ ap (map (change_of d settings)) c.in_ok-found.ensures.found in
-    let updates = c.in_ok-why.ensures.updates in
-    let refusal : None ≡ (set_all d settings None 1 rows all).refusal = sym c.in-None-2.is ∙ updates.refusal settings all are in
-    let set : values c.update_all.new.rows ≡ (set_all d settings None 1 rows all).rows =
-    updates.rows settings all are ∙ ap (λ (o : _). cond (is_some o) rows (set_all d settings None 1 rows all).rows) c.in-None-2.is in
+    c.in_ok-changes.ensures ∙ ap (λ (found : _). map (change_of d settings) (map (λ r. r.now) found)) c.as_slice.ensures.value ∙ ap (map (change_of d settings)) c.in_ok-found.ensures.found in
+    let updates = c.in_ok-update_all.ensures.updates in
     let outcome = update_is world name d rows c.args.key sought settings exception number None all has is none (λ i. all)
-    ∙ update_set world name d rows (values c.update_all.new.rows) settings exception all few (ap (option_map Spent) c.in-None-spent.is) refusal set in
+    ∙ update_set world name d rows (values c.update_all.new.rows) settings exception all few room (updates.refusal settings all are) (updates.rows settings all are) in
     record {
       world = sym (ap (λ o. o.world) outcome);
       reply = ap Count (sym size) ∙ sym (ap (λ o. o.reply) outcome);

@@ -4,7 +4,8 @@ use Rattle.std.specs.Option.{is_some, option_map}
 use Rattle.std.specs.BTreeMap.{WritesThrough}
 use Rattle.std.specs.Cmp.Lexicographic.{slice_cmp}
 use Rattle.std.specs.Ordering.{nat_cmp}
-use Rattle.std.proofs.lemmas.Result.{IfOk-weaker, on_err_weaker}
+use Rattle.std.proofs.lemmas.Result.{on_err_weaker}
+use Rattle.aria_memory.proofs.Stopping.{replies_weaker}
 use Rattle.aria_model.specs.declared.refusal.Exception.TheVariants.{Spent}
 use Rattle.aria_model.specs.World.{World, with_table}
 use Rattle.aria_model.specs.Step.{insert}
@@ -21,7 +22,7 @@ returns-in-Some-clause-inserts c =
     let change : WritesThrough (slice_cmp nat_cmp) (slice_cmp nat_cmp name) old table (c.get_mut.follows.lender table) = c.get_mut.follows.holds table in
     let has : world_of c.args.self.now name ≡ Some (table_of c.in-Some.table.now) = ap (option_map table_of) (sym c.in-Some.ensures.value) in
     let put = world_with old.entries (c.get_mut.follows.lender table).entries name table (change.3 (ap is_some (sym c.in-Some.ensures.value))).0 in
-    IfOk-weaker c.insert.result (ActsOn (λ (world : World) name. insert world name c.args.rows (option_map Spent c.args.spent)) (table_of c.in-Some.table.now) (table_of table)) _
+    replies_weaker c.insert.result (ActsOn (λ (world : World) name. insert world name c.args.rows (option_map Spent c.args.spent)) (table_of c.in-Some.table.now) (table_of table)) _
     (λ reply acts. let leaves = acts (world_of c.args.self.now) name has in record { world = put ∙ leaves.world; reply = leaves.reply })
     c.insert.ensures.inserts
 
