@@ -10,7 +10,7 @@ use crate::changing::{change_of, is_changed};
 use aria_journal::Frame;
 use aria_memory::Tables;
 use aria_page::Bytes;
-use aria_statement::{ParseFault, parse};
+use aria_statement::{Stopped, parse};
 use std::alloc::{AllocError, Global};
 
 // Executes a line of the log, and says whether it changed the tables.
@@ -29,8 +29,8 @@ fn redo(
             let reply = tables.execute(alloc, statement, None, text)?;
             Ok(is_changed(change, &reply))
         }
-        Err(ParseFault::Refused(_)) => Ok(false),
-        Err(ParseFault::Memory(error)) => Err(error),
+        Err(Stopped::Refused(_)) => Ok(false),
+        Err(Stopped::Memory) => Err(AllocError),
     }
 }
 

@@ -14,7 +14,7 @@ use crate::changing::{Change, change_of, exception_of, is_changed, is_refused};
 use crate::store::{FILE, FULL_PAGES, Store};
 use aria_model::{Refusal, Reply, push_reply_text};
 use aria_page::Bytes;
-use aria_statement::{ParseFault, parse};
+use aria_statement::{Stopped, parse};
 use std::alloc::{AllocError, Global};
 
 /// What a statement came to in memory.
@@ -87,8 +87,8 @@ impl Store {
                 self.tally.note(nth, exception_of(spent, &reply))?;
                 Ok(Some(finish(&mut self.text, change, reply)?))
             }
-            Err(ParseFault::Refused(why)) => Ok(Some(self.refuse(why)?)),
-            Err(ParseFault::Memory(error)) => Err(error),
+            Err(Stopped::Refused(why)) => Ok(Some(self.refuse(why)?)),
+            Err(Stopped::Memory) => Err(AllocError),
         }
     }
 }

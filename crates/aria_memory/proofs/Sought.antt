@@ -1,5 +1,5 @@
 -- What a statement seeks by a key, one value after another.
-use Rattle.std.specs.Prelude.{◌≡◌, ℕ, zero, suc, ◌+◌, ◌<◌, ◌≤◌, true, false, ◌&&◌, cond, nat_lt, List, [], ◌∷◌, length, drop, Option, Some, None, refl}
+use Rattle.std.specs.Prelude.{◌≡◌, ℕ, zero, suc, ◌+◌, ◌<◌, ◌≤◌, true, false, ◌&&◌, cond, nat_lt, List, [], ◌∷◌, length, drop, Some, None, refl}
 use Rattle.std.specs.Ordering.{is_eq}
 use Rattle.std.proofs.Common.{sym, ap, ◌∙◌, arith, get_or, drop-cons, add-one}
 use Rattle.std.proofs.lemmas.List.{drop_all}
@@ -7,12 +7,11 @@ use Rattle.std.proofs.lemmas.List.Recursion.{and_at}
 use Rattle.std.proofs.lemmas.Bool.{ltb-true}
 use Rattle.aria_value.specs.declared.value.Value.{Value}
 use Rattle.aria_value.specs.declared.value.Value.TheVariants.{Null}
-use Rattle.aria_value.specs.declared.definition.Key.{Key}
 use Rattle.aria_value.specs.declared.definition.Column.{Column}
-use Rattle.aria_value.specs.Defined.{same_name, kind_at}
+use Rattle.aria_value.specs.Defined.{kind_at}
 use Rattle.aria_value.specs.Order.{value_cmp, value_at, has_values}
 use Rattle.aria_value.specs.Entry.{has_type}
-use Rattle.aria_model.specs.Step.{option_suc, key_number, name_at, bad_sought}
+use Rattle.aria_model.specs.Step.{name_at, bad_sought}
 use Rattle.aria_memory.specs.Keyed.{are_columns_of}
 
 -- ---- values that may be sought

@@ -2,8 +2,8 @@
 use Rattle.std.proofs.Common.{◌≡◌, ℕ, zero, suc, ◌<◌, ◌≤◌, List, [], ◌∷◌, ◌++◌, length, Option, Some, None, Result, Ok, Err, refl, sym, ap, ◌∙◌, append_assoc, arith}
 use Rattle.aria_model.specs.declared.refusal.Refusal.{Refusal}
 use Rattle.aria_model.specs.Grammar.{Tokens, ◌>>=◌, bad, items_within, items}
-use Rattle.aria_statement.specs.declared.fault.ParseFault.{ParseFault}
-use Rattle.aria_statement.specs.declared.fault.ParseFault.TheVariants.{Memory, Refused}
+use Rattle.aria_model.specs.declared.stopped.Stopped.{Stopped}
+use Rattle.aria_model.specs.declared.stopped.Stopped.TheVariants.{Memory, Refused}
 use Rattle.aria_statement.specs.Reading.{IsFaultOf}
 use Rattle.aria_statement.proofs.Steps.{bind_ok, bind_same, done_same}
 
@@ -94,9 +94,9 @@ is_refused item another front ts total why short e so_far =
     sym so_far.whole ∙ ap (λ r. with_front front r) step
 
 -- an item that gave a fault
-pub is_fault : {A : Type 0} (item : Reader A) (another : Tokens → Option Tokens) (front : List A) (ts : Tokens) (total : Result (List A × Tokens) Refusal) (fault : ParseFault)
+pub is_fault : {A : Type 0} (item : Reader A) (another : Tokens → Option Tokens) (front : List A) (ts : Tokens) (total : Result (List A × Tokens) Refusal) (fault : Stopped)
     → Shortens item another → IsFaultOf fault (item ts) → SoFar item another front ts total → IsFaultOf fault total
-is_fault item another front ts total (Memory error) short e so_far = tt
+is_fault item another front ts total Memory short e so_far = tt
 is_fault item another front ts total (Refused why) short e so_far = is_refused item another front ts total why short e so_far
 
 -- Fewer tokens are left behind items.

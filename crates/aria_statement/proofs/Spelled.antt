@@ -17,7 +17,7 @@ use Rattle.aria_model.specs.declared.statement.Statement.{Statement}
 use Rattle.aria_model.specs.declared.statement.Statement.TheVariants.{Create, Insert, Delete, Update, Select, Drop, Flush, Checkpoint}
 use Rattle.aria_model.specs.Token.{Word, Number, Wide, Quoted, Sign, End, Stray, tokens, is_blank}
 use Rattle.aria_model.specs.Grammar.{Tokens, name, keyword, the_end, items, column, another_column, row, another_row, key, another_key, sought, setting, behind_comma, table_kind, max_rows, TableKind, is_packed, is_plain, WrittenColumn, WrittenKey, is_spatial, is_fulltext, natural_of, type_of, keys_of, unless_bad, defined_with, defined, create, insert, delete, update, select, drop, flush, statement, read_line, IsSpelled}
-use Rattle.aria_statement.specs.declared.fault.ParseFault.{ParseFault}
+use Rattle.aria_model.specs.declared.stopped.Stopped.{Stopped}
 use Rattle.aria_statement.specs.Reading.{Reads}
 use Rattle.aria_statement.specs.Defining.{column_of, tested}
 use Rattle.aria_statement.proofs.Steps.{bind_ok, chosen, done, done_same}
@@ -199,6 +199,6 @@ line_spelled line o e =
     ]
 
 -- What was read from a line is a statement that a line spells.
-pub read_spelled : (line : List ℕ) (answer : Result (Option Statement) ParseFault) → Reads answer (read_line line) → IfOk answer (λ found. IfSome found IsSpelled)
+pub read_spelled : (line : List ℕ) (answer : Result (Option Statement) Stopped) → Reads answer (read_line line) → IfOk answer (λ found. IfSome found IsSpelled)
 read_spelled line (Ok o) reads = line_spelled line o reads
 read_spelled line (Err fault) reads = tt

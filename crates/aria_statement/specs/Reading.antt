@@ -2,22 +2,22 @@
 use Rattle.std.specs.Prelude.{◌≡◌, ℕ, Bool, false, ◌==◌, List, ◌∷◌, Option, Some, None, Result, Ok, Err}
 use Rattle.aria_model.specs.declared.refusal.Refusal.{Refusal}
 use Rattle.aria_model.specs.Token.{Token, Sign}
-use Rattle.aria_statement.specs.declared.fault.ParseFault.{ParseFault}
-use Rattle.aria_statement.specs.declared.fault.ParseFault.TheVariants.{Memory, Refused}
+use Rattle.aria_model.specs.declared.stopped.Stopped.{Stopped}
+use Rattle.aria_model.specs.declared.stopped.Stopped.TheVariants.{Memory, Refused}
 use Rattle.aria_statement.specs.Lexing.{left}
 
 -- the fault is the refusal that was read, or want of memory
-abbrev pub IsFaultOf : {A : Type 0} → ParseFault → Result A Refusal → Type 0
-IsFaultOf (Memory error) read = Unit {0}
+abbrev pub IsFaultOf : {A : Type 0} → Stopped → Result A Refusal → Type 0
+IsFaultOf Memory read = Unit {0}
 IsFaultOf (Refused why) read = read ≡ Err why
 
 -- the answer is what was read, unless memory ran out
-abbrev pub Reads : {A : Type 0} → Result A ParseFault → Result A Refusal → Type 0
+abbrev pub Reads : {A : Type 0} → Result A Stopped → Result A Refusal → Type 0
 Reads (Ok found) read = read ≡ Ok found
 Reads (Err fault) read = IsFaultOf fault read
 
 -- the same for an answer that is seen in another form
-abbrev pub Gives : {A B : Type 0} → (A → B) → Result A ParseFault → Result B Refusal → Type 0
+abbrev pub Gives : {A B : Type 0} → (A → B) → Result A Stopped → Result B Refusal → Type 0
 Gives view (Ok found) read = read ≡ Ok (view found)
 Gives view (Err fault) read = IsFaultOf fault read
 

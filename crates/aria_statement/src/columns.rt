@@ -7,14 +7,13 @@ ghost use Rattle.aria_statement.specs.Lexing.{left};
 ghost use Rattle.aria_statement.specs.Reading.{Gives, seen_as, left_if, begins_colon};
 ghost use Rattle.aria_statement.specs.Writing.{type_seen, column_seen, special_seen, key_seen, kind_seen};
 
-use crate::fault::ParseFault;
 use crate::lexer::next_token;
 use crate::productions::{
     bad, behind_comma, colon_follows, is_keyword, read_end, read_name, read_number, read_sign,
 };
 use crate::token::Token;
 use crate::written::{Special, TableKind, WrittenColumn, WrittenKey, WrittenType};
-use aria_model::Refusal;
+use aria_model::{Refusal, Stopped};
 use aria_page::{List, Name};
 use aria_value::MAX_ROWS;
 use std::alloc::Global;
@@ -80,7 +79,7 @@ pub fn read_columns(
     alloc: Global,
     line: &[u8],
     at: usize,
-) -> Result<(List<WrittenColumn>, usize), ParseFault>
+) -> Result<(List<WrittenColumn>, usize), Stopped>
     ensures { Gives (λ x. (map column_seen x.0, left line.now x.1)) result (items column_read another_column_read (left line.now at)) }
 {
     let mut columns = List::new(alloc);
@@ -95,7 +94,7 @@ pub fn read_columns(
     }
 }
 
-fn read_names(alloc: Global, line: &[u8], at: usize) -> Result<(List<Name>, usize), ParseFault>
+fn read_names(alloc: Global, line: &[u8], at: usize) -> Result<(List<Name>, usize), Stopped>
     ensures { Gives (λ x. (x.0, left line.now x.1)) result (items name_read behind_comma_read (left line.now at)) }
 {
     let mut names = List::new(alloc);
@@ -136,7 +135,7 @@ fn read_special(line: &[u8], at: usize) -> Result<(Special, usize), Refusal>
     }
 }
 
-fn read_key(alloc: Global, line: &[u8], at: usize) -> Result<(WrittenKey, usize), ParseFault>
+fn read_key(alloc: Global, line: &[u8], at: usize) -> Result<(WrittenKey, usize), Stopped>
     ensures { Gives (λ x. (key_seen x.0, left line.now x.1)) result (key_read (left line.now at)) }
 {
     let (name, at) = read_name(line, at)?;
@@ -167,7 +166,7 @@ pub fn read_keys(
     alloc: Global,
     line: &[u8],
     at: usize,
-) -> Result<(List<WrittenKey>, usize), ParseFault>
+) -> Result<(List<WrittenKey>, usize), Stopped>
     ensures { Gives (λ x. (map key_seen x.0, left line.now x.1)) result (items key_read another_key_read (left line.now at)) }
 {
     let mut keys = List::new(alloc);

@@ -6,14 +6,13 @@ ghost use Rattle.aria_value.specs.Defined.{same_name, distinct};
 ghost use Rattle.aria_model.specs.declared.refusal.Refusal.TheVariants.{BadDefinition};
 ghost use Rattle.aria_model.specs.declared.refusal.Which.TheVariants.{Packed};
 ghost use Rattle.aria_model.specs.Grammar.{column_number as number_of_column, column_numbers as numbers_of_columns, keys_of as keys_found, is_packed as is_packed_kind, is_spatial as is_spatial_key, is_fulltext as is_fulltext_key, unless_bad, defined as defined_of};
-ghost use Rattle.aria_statement.specs.declared.fault.ParseFault.TheVariants.{Refused};
+ghost use Rattle.aria_model.specs.declared.stopped.Stopped.TheVariants.{Refused};
 ghost use Rattle.aria_statement.specs.Reading.{Reads};
 ghost use Rattle.aria_statement.specs.Writing.{type_seen, column_seen, special_seen, key_seen, kind_seen};
 ghost use Rattle.aria_statement.specs.Defining.{up_to, type_if, columns_if, tested, are_good_columns, with_columns, with_rows};
 
-use crate::fault::ParseFault;
 use crate::written::{Special, TableKind, WrittenColumn, WrittenKey, WrittenType};
-use aria_model::{Refusal, Which};
+use aria_model::{Refusal, Stopped, Which};
 use aria_page::{Bytes, List, Name};
 use aria_value::{
     Column, ColumnType, Definition, Key, MAX_COLUMNS, MAX_ROWS, MAX_TEXT_BYTES, are_keys,
@@ -21,10 +20,10 @@ use aria_value::{
 };
 use std::alloc::{AllocError, Global};
 
-fn bad(which: Which) -> ParseFault
+fn bad(which: Which) -> Stopped
     ensures { result ≡ Refused (BadDefinition which) }
 {
-    ParseFault::Refused(Refusal::BadDefinition { which })
+    Stopped::Refused(Refusal::BadDefinition { which })
 }
 
 fn is_packed(kind: TableKind) -> bool
@@ -179,7 +178,7 @@ fn any_is_fulltext(keys: &[WrittenKey]) -> bool
 
 // The definition, unless its keys make it a bad one.
 #[tactic(auto, using(crate::proofs::Defining::specials_are))]
-fn tested(definition: Definition, keys: &[WrittenKey]) -> Result<Definition, ParseFault>
+fn tested(definition: Definition, keys: &[WrittenKey]) -> Result<Definition, Stopped>
     ensures { Reads result (tested definition (map key_seen keys.now)) }
 {
     if !are_keys(definition.columns.as_slice(), definition.keys.as_slice()) {
@@ -203,7 +202,7 @@ fn with_columns(
     max_rows: u32,
     columns: &[WrittenColumn],
     keys: &[WrittenKey],
-) -> Result<Definition, ParseFault>
+) -> Result<Definition, Stopped>
     requires { length columns.now ≤ 32 }
     ensures { Reads result (with_columns max_rows (map column_seen columns.now) (map key_seen keys.now) (columns_if (map column_seen columns.now))) }
 {
@@ -238,7 +237,7 @@ fn defined_in_turn(
     rows: i64,
     columns: &[WrittenColumn],
     keys: &[WrittenKey],
-) -> Result<Definition, ParseFault>
+) -> Result<Definition, Stopped>
     ensures { Reads result (unless_bad (not (is_packed_kind (kind_seen kind))) Packed (with_rows (map column_seen columns.now) (map key_seen keys.now) (up_to 16777216 rows))) }
 {
     if is_packed(kind) {
@@ -260,7 +259,7 @@ pub fn defined(
     rows: i64,
     columns: &[WrittenColumn],
     keys: &[WrittenKey],
-) -> Result<Definition, ParseFault>
+) -> Result<Definition, Stopped>
     ensures { Reads result (defined_of (kind_seen kind) rows (map column_seen columns.now) (map key_seen keys.now)) }
 {
     defined_in_turn(alloc, kind, rows, columns, keys)

@@ -8,7 +8,6 @@
 
 mod columns;
 mod definition;
-mod fault;
 mod lexer;
 mod number;
 mod parser;
@@ -18,8 +17,7 @@ mod text;
 mod token;
 mod written;
 
-pub use aria_model::Statement;
-pub use fault::ParseFault;
+pub use aria_model::{Statement, Stopped};
 pub use parser::parse;
 
 #[cfg(test)]

@@ -10,13 +10,12 @@ ghost use Rattle.aria_statement.specs.Writing.{kind_seen};
 
 use crate::columns::{read_columns, read_end_of_keys, read_keys, read_max_rows, read_table_kind};
 use crate::definition::defined;
-use crate::fault::ParseFault;
 use crate::lexer::{is_blank, next_token};
 use crate::productions::{bad, is_keyword, read_end, read_keyword, read_name};
 use crate::rows::{read_rows, read_settings, read_sought};
 use crate::token::Token;
 use crate::written::TableKind;
-use aria_model::{MAX_LINE_BYTES, Refusal, Statement};
+use aria_model::{MAX_LINE_BYTES, Refusal, Statement, Stopped};
 use std::alloc::Global;
 
 fn is_plain(kind: TableKind) -> bool
@@ -29,7 +28,7 @@ fn is_plain(kind: TableKind) -> bool
     }
 }
 
-fn read_create(alloc: Global, line: &[u8], at: usize) -> Result<Statement, ParseFault>
+fn read_create(alloc: Global, line: &[u8], at: usize) -> Result<Statement, Stopped>
     ensures { Reads result (create (left line.now at)) }
 {
     let (name, at) = read_name(line, at)?;
@@ -47,7 +46,7 @@ fn read_create(alloc: Global, line: &[u8], at: usize) -> Result<Statement, Parse
     })
 }
 
-fn read_insert(alloc: Global, line: &[u8], at: usize) -> Result<Statement, ParseFault>
+fn read_insert(alloc: Global, line: &[u8], at: usize) -> Result<Statement, Stopped>
     ensures { Reads result (insert (left line.now at)) }
 {
     let (name, at) = read_name(line, at)?;
@@ -55,7 +54,7 @@ fn read_insert(alloc: Global, line: &[u8], at: usize) -> Result<Statement, Parse
     Ok(read_end(line, at, Statement::Insert { name, rows })?)
 }
 
-fn read_delete(alloc: Global, line: &[u8], at: usize) -> Result<Statement, ParseFault>
+fn read_delete(alloc: Global, line: &[u8], at: usize) -> Result<Statement, Stopped>
     ensures { Reads result (delete (left line.now at)) }
 {
     let (name, at) = read_name(line, at)?;
@@ -64,7 +63,7 @@ fn read_delete(alloc: Global, line: &[u8], at: usize) -> Result<Statement, Parse
     Ok(read_end(line, at, Statement::Delete { name, key, values })?)
 }
 
-fn read_update(alloc: Global, line: &[u8], at: usize) -> Result<Statement, ParseFault>
+fn read_update(alloc: Global, line: &[u8], at: usize) -> Result<Statement, Stopped>
     ensures { Reads result (update (left line.now at)) }
 {
     let (name, at) = read_name(line, at)?;
@@ -81,7 +80,7 @@ fn read_update(alloc: Global, line: &[u8], at: usize) -> Result<Statement, Parse
     Ok(read_end(line, at, update)?)
 }
 
-fn read_select(alloc: Global, line: &[u8], at: usize) -> Result<Statement, ParseFault>
+fn read_select(alloc: Global, line: &[u8], at: usize) -> Result<Statement, Stopped>
     ensures { Reads result (select (left line.now at)) }
 {
     let (name, at) = read_name(line, at)?;
@@ -104,7 +103,7 @@ fn read_flush(line: &[u8], at: usize) -> Result<Statement, Refusal>
     read_end(line, at, Statement::Flush { name })
 }
 
-fn read_statement(alloc: Global, line: &[u8], at: usize) -> Result<Statement, ParseFault>
+fn read_statement(alloc: Global, line: &[u8], at: usize) -> Result<Statement, Stopped>
     ensures { Reads result (statement_read (left line.now at)) }
 {
     let (begins, token, behind) = next_token(line, at);
@@ -139,7 +138,7 @@ fn is_blank_line(line: &[u8]) -> bool
 }
 
 #[tactic(auto, unfolding(aria_model::specs::Grammar::read_line))]
-fn read_line(alloc: Global, line: &[u8]) -> Result<Option<Statement>, ParseFault>
+fn read_line(alloc: Global, line: &[u8]) -> Result<Option<Statement>, Stopped>
     ensures { Reads result (line_read line.now) }
 {
     if line.len() > MAX_LINE_BYTES {
@@ -154,7 +153,7 @@ fn read_line(alloc: Global, line: &[u8]) -> Result<Option<Statement>, ParseFault
 
 /// The statement that a line spells, without its LF; `None` where it is blank.
 #[tactic(auto, using(crate::proofs::Spelled::read_spelled))]
-pub fn parse(alloc: Global, line: &[u8]) -> Result<Option<Statement>, ParseFault>
+pub fn parse(alloc: Global, line: &[u8]) -> Result<Option<Statement>, Stopped>
     ensures reads { Reads result (line_read line.now) }
     ensures spelled { IfOk result (λ found. IfSome found IsSpelled) }
 {

@@ -5,17 +5,16 @@ ghost use Rattle.aria_model.specs.Grammar.{value as value_read, behind_comma as 
 ghost use Rattle.aria_statement.specs.Lexing.{left};
 ghost use Rattle.aria_statement.specs.Reading.{Gives, left_if};
 
-use crate::fault::ParseFault;
 use crate::lexer::next_token;
 use crate::productions::{bad, behind_comma, is_keyword, read_name, read_sign};
 use crate::text::{hex_bytes, undoubled};
 use crate::token::Token;
-use aria_model::{Refusal, Setting};
+use aria_model::{Refusal, Setting, Stopped};
 use aria_page::List;
 use aria_value::{Row, Value};
 use std::alloc::Global;
 
-fn read_value(alloc: Global, line: &[u8], at: usize) -> Result<(Value, usize), ParseFault>
+fn read_value(alloc: Global, line: &[u8], at: usize) -> Result<(Value, usize), Stopped>
     ensures { Gives (λ x. (x.0, left line.now x.1)) result (value_read (left line.now at)) }
 {
     let (begins, token, behind) = next_token(line, at);
@@ -35,7 +34,7 @@ fn read_value(alloc: Global, line: &[u8], at: usize) -> Result<(Value, usize), P
     }
 }
 
-fn read_values(alloc: Global, line: &[u8], at: usize) -> Result<(List<Value>, usize), ParseFault>
+fn read_values(alloc: Global, line: &[u8], at: usize) -> Result<(List<Value>, usize), Stopped>
     ensures { Gives (λ x. (x.0, left line.now x.1)) result (items value_read behind_comma_read (left line.now at)) }
 {
     let mut values = List::new(alloc);
@@ -50,7 +49,7 @@ fn read_values(alloc: Global, line: &[u8], at: usize) -> Result<(List<Value>, us
     }
 }
 
-fn read_row(alloc: Global, line: &[u8], at: usize) -> Result<(Row, usize), ParseFault>
+fn read_row(alloc: Global, line: &[u8], at: usize) -> Result<(Row, usize), Stopped>
     ensures { Gives (λ x. (x.0, left line.now x.1)) result (row_read (left line.now at)) }
 {
     let at = read_sign(line, at, b'(')?;
@@ -71,11 +70,7 @@ fn another_row(line: &[u8], at: usize) -> Option<usize>
 }
 
 /// The values that rows are sought by: none where no parenthesis follows.
-pub fn read_sought(
-    alloc: Global,
-    line: &[u8],
-    at: usize,
-) -> Result<(List<Value>, usize), ParseFault>
+pub fn read_sought(alloc: Global, line: &[u8], at: usize) -> Result<(List<Value>, usize), Stopped>
     ensures { Gives (λ x. (x.0, left line.now x.1)) result (sought_read (left line.now at)) }
 {
     let (_, token, _) = next_token(line, at);
@@ -85,7 +80,7 @@ pub fn read_sought(
     }
 }
 
-pub fn read_rows(alloc: Global, line: &[u8], at: usize) -> Result<(List<Row>, usize), ParseFault>
+pub fn read_rows(alloc: Global, line: &[u8], at: usize) -> Result<(List<Row>, usize), Stopped>
     ensures { Gives (λ x. (x.0, left line.now x.1)) result (items row_read another_row_read (left line.now at)) }
 {
     let mut rows = List::new(alloc);
@@ -100,7 +95,7 @@ pub fn read_rows(alloc: Global, line: &[u8], at: usize) -> Result<(List<Row>, us
     }
 }
 
-fn read_setting(alloc: Global, line: &[u8], at: usize) -> Result<(Setting, usize), ParseFault>
+fn read_setting(alloc: Global, line: &[u8], at: usize) -> Result<(Setting, usize), Stopped>
     ensures { Gives (λ x. (x.0, left line.now x.1)) result (setting_read (left line.now at)) }
 {
     let (column, at) = read_name(line, at)?;
@@ -113,7 +108,7 @@ pub fn read_settings(
     alloc: Global,
     line: &[u8],
     at: usize,
-) -> Result<(List<Setting>, usize), ParseFault>
+) -> Result<(List<Setting>, usize), Stopped>
     ensures { Gives (λ x. (x.0, left line.now x.1)) result (items setting_read behind_comma_read (left line.now at)) }
 {
     let mut settings = List::new(alloc);

@@ -178,8 +178,8 @@ fn answer(alloc: Global, line: &[u8]) -> Result<Bytes, AllocError> {
     match parse(alloc, line) {
         Ok(None) => told.extend_from_slice(b"blank")?,
         Ok(Some(read)) => push_statement(alloc, &mut told, read)?,
-        Err(ParseFault::Refused(why)) => push_refusal(alloc, &mut told, &why)?,
-        Err(ParseFault::Memory(_)) => told.extend_from_slice(b"memory")?,
+        Err(Stopped::Refused(why)) => push_refusal(alloc, &mut told, &why)?,
+        Err(Stopped::Memory) => told.extend_from_slice(b"memory")?,
     }
     let mut answer = List::new(alloc);
     for byte in told.as_slice() {

@@ -1,11 +1,10 @@
 use Rattle.std.proofs.Common.{◌≡◌, length, map, rules, sym, ap, ◌∙◌}
-use Rattle.std.specs.Prelude.{None, Some, [], ◌∷◌, true, false, nat_lt}
+use Rattle.std.specs.Prelude.{None, [], ◌∷◌, true, false, nat_lt}
 use Rattle.std.specs.Option.{option_map}
 use Rattle.std.specs.BTreeMap.{values}
 use Rattle.std.proofs.lemmas.List.{length-map}
 use Rattle.std.proofs.lemmas.Result.{err_from_is_err_and}
 use Rattle.aria_model.specs.declared.refusal.Exception.TheVariants.{Spent}
-use Rattle.aria_model.specs.declared.refusal.Refusal.TheVariants.{TooManyRows}
 use Rattle.aria_model.specs.Step.{refused, first_of, unless, spent, concerned}
 use Rattle.aria_value.specs.Order.{key_columns}
 use Rattle.aria_memory.specs.Keyed.{values_in}

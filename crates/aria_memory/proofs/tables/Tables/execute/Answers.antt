@@ -1,4 +1,3 @@
-use Rattle.std.proofs.Common.{◌≡◌}
 use Rattle.aria_memory.proofs.Stopping.{replied_has, replied_err}
 use Rattle.aria_memory.proofs.tables.Tables.execute.Goals as goal
 
