@@ -171,4 +171,3 @@ turned_refused line why before now read world log notes text_is one =
       frame = λ h. absurd (cc);
       room = λ h. absurd (cc);
     }
-

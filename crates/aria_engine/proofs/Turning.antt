@@ -109,12 +109,12 @@ does_noted tells line before now s noted here =
     ⊎_elim unnoted (λ (notes : Notes before.tally now.tally x). elim (cases_Bool (is_blank_line line)) [
       | inl blank ↦ unnoted (notes.met ∙ ap (λ (y : Option Exception). before.tally.met ++ entry (count_of before) y) (blank_due (tables_of before) line (pages_of before) blank) ∙ append-nil before.tally.met)
       | inr some ↦ record {
-          added = entry (count_of before) x;
-          counts = counts_noted before now x notes;
-          answered = 1;
-          meets = meets_first_line line before x some refl;
-          all = λ xs met. silent tells xs (line ∷ []) 1 before s here;
-        }
+        added = entry (count_of before) x;
+        counts = counts_noted before now x notes;
+        answered = 1;
+        meets = meets_first_line line before x some refl;
+        all = λ xs met. silent tells xs (line ∷ []) 1 before s here;
+      }
     ]) noted.noted
   where
     x : Option Exception

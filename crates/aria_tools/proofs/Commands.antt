@@ -94,21 +94,21 @@ runs_after to s0 s1 world store met r h h0 h1 is pages same opens told alone wor
     let xs : Exceptions = met_at met in
     let lines = statements (lines_of s0.left) in
     let runs = works.runs told alone in record {
-  count = works.count;
-  meets = record {
-    within = works.meets.within;
-    last = works.meets.last;
-    left = works.meets.left;
-    meets = subst (λ (w : World). Meets 0 (end_of (log_pages h.folder)) w (take works.count lines) met works.meets.last works.meets.left) is
-        (subst (λ (k : ℕ). Meets 0 k opened (take works.count lines) met works.meets.last works.meets.left) pages works.meets.meets);
-  };
-  pages = works.pages told;
-  answered = answered_after s0 s1 world xs works.count r h h0 h1 same (subst (λ (w : World). Answered s0 s1 w xs works.count r h0 h1) is runs.answered);
-  moments = joined h h0 h1 (λ c t. Began h c t ⊎ Leaves world (lines_of s0.left) xs h.out c t) (Leaves opened (lines_of s0.left) xs h0.out)
-      (weakened h h0 (OpensAs h world) (λ c t. Began h c t ⊎ Leaves world (lines_of s0.left) xs h.out c t) opens (opens_began h world (lines_of s0.left) xs))
-      runs.moments
-      (λ c t leaves. inr (subst (λ (o : List ℕ). Leaves world (lines_of s0.left) xs o c t) same (subst (λ (w : World). Leaves w (lines_of s0.left) xs h0.out c t) is leaves)));
-}
+      count = works.count;
+      meets = record {
+        within = works.meets.within;
+        last = works.meets.last;
+        left = works.meets.left;
+        meets = subst (λ (w : World). Meets 0 (end_of (log_pages h.folder)) w (take works.count lines) met works.meets.last works.meets.left) is
+            (subst (λ (k : ℕ). Meets 0 k opened (take works.count lines) met works.meets.last works.meets.left) pages works.meets.meets);
+      };
+      pages = works.pages told;
+      answered = answered_after s0 s1 world xs works.count r h h0 h1 same (subst (λ (w : World). Answered s0 s1 w xs works.count r h0 h1) is runs.answered);
+      moments = joined h h0 h1 (λ c t. Began h c t ⊎ Leaves world (lines_of s0.left) xs h.out c t) (Leaves opened (lines_of s0.left) xs h0.out)
+          (weakened h h0 (OpensAs h world) (λ c t. Began h c t ⊎ Leaves world (lines_of s0.left) xs h.out c t) opens (opens_began h world (lines_of s0.left) xs))
+          runs.moments
+          (λ c t leaves. inr (subst (λ (o : List ℕ). Leaves world (lines_of s0.left) xs o c t) same (subst (λ (w : World). Leaves w (lines_of s0.left) xs h0.out c t) is leaves)));
+    }
 
 -- a run that stopped as its store was opened
 pub runs_never : (s0 s1 : Supply) (world : World) (met : List Met) (stop : Stop) (h h0 : State) → met ≡ [] → h0.out ≡ h.out → AnswersBy stop s0 s1 world (met_at met) h h0

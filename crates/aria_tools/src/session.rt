@@ -82,7 +82,12 @@ impl Session {
     }
 
     // Answers the held line with these bytes at its end.
-    fn answer_held<H: Host>(&mut self, alloc: Global, host: &mut H, bytes: &[u8]) -> Result<(), Stop>
+    fn answer_held<H: Host>(
+        &mut self,
+        alloc: Global,
+        host: &mut H,
+        bytes: &[u8],
+    ) -> Result<(), Stop>
         requires ready { IsReady H.tells self.old.store (H.state host.old) }
         ensures ready { OnOk result (IsReady H.tells self.new.store (H.state host.new)) }
         ensures done { OnOk result ((rest : List ℕ) → self.old.held.items ≡ clipped rest →

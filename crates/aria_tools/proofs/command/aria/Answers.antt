@@ -1,8 +1,9 @@
-use Rattle.std.proofs.Common.{◌∙◌, ◌⊎◌, sym, subst, arith}
+use Rattle.std.proofs.Common.{◌∙◌, ◌⊎◌, sym, ap, subst, arith}
 use Rattle.aria_host.specs.Folder.{Folder}
 use Rattle.aria_model.specs.Script.{lines_of, statements, world_after}
 use Rattle.aria_model.specs.Journal.{met_at}
-use Rattle.aria_engine.specs.Holds.{Holds, HoldsSome}
+use Rattle.aria_host.specs.State.{State}
+use Rattle.aria_engine.specs.Holds.{Holds, HoldsSome, AtRest, IsSettled}
 use Rattle.aria_engine.specs.Done.{Leaves}
 use Rattle.aria_host.proofs.Moments.{weakened}
 use Rattle.aria_engine.proofs.Opening.{each_reads, some_reads}
@@ -68,6 +69,22 @@ returns-clause-done_told g c low ti to world reads =
     (supply (g.S.Source.left c.run-ran.new.input) (g.S.Source.taken c.run-ran.new.input) (g.S.Source.faults c.run-ran.new.input))
     world c.run-ran.result.met c.run-ran.result.outcome ok.0 (g.H.Host.state c.args.host.now) (g.H.Host.state c.run-ran.new.host) ok.1 (c.run-ran.ensures.runs ti to world reads) in
     (c.end.ensures.only to).out ∙ all.out
+
+pub returns-clause-done_rest : goal.returns-clause-done_rest
+returns-clause-done_rest g c low ti to world reads =
+    let ok = ended_ok c.run-ran.result.outcome c.end.result c.end.ensures.status low in
+    let all = all_answered (supply (g.S.Source.left c.args.input.now) (g.S.Source.taken c.args.input.now) (g.S.Source.faults c.args.input.now))
+    (supply (g.S.Source.left c.run-ran.new.input) (g.S.Source.taken c.run-ran.new.input) (g.S.Source.faults c.run-ran.new.input))
+    world c.run-ran.result.met c.run-ran.result.outcome ok.0 (g.H.Host.state c.args.host.now) (g.H.Host.state c.run-ran.new.host) ok.1 (c.run-ran.ensures.runs ti to world reads) in
+    subst (λ (s : State). AtRest s) (sym (ap g.H.Host.state (c.end.ensures.calm low))) all.rest
+
+pub returns-clause-done_settled : goal.returns-clause-done_settled
+returns-clause-done_settled g c low ti to world reads =
+    let ok = ended_ok c.run-ran.result.outcome c.end.result c.end.ensures.status low in
+    let all = all_answered (supply (g.S.Source.left c.args.input.now) (g.S.Source.taken c.args.input.now) (g.S.Source.faults c.args.input.now))
+    (supply (g.S.Source.left c.run-ran.new.input) (g.S.Source.taken c.run-ran.new.input) (g.S.Source.faults c.run-ran.new.input))
+    world c.run-ran.result.met c.run-ran.result.outcome ok.0 (g.H.Host.state c.args.host.now) (g.H.Host.state c.run-ran.new.host) ok.1 (c.run-ran.ensures.runs ti to world reads) in
+    subst (λ (s : State). IsSettled s.folder) (sym (ap g.H.Host.state (c.end.ensures.calm low))) all.settled
 
 pub returns-clause-done_holds : goal.returns-clause-done_holds
 returns-clause-done_holds g c low ti to world reads =
