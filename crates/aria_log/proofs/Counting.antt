@@ -1,0 +1,37 @@
+-- Numbers of pages and of files.
+use Rattle.std.proofs.Common.{◌≡◌, ◌==◌, ◌⊎◌, inl, inr, ℕ, suc, ◌+◌, ◌/◌, ◌%◌, ◌<◌, ◌≤◌, Bool, true, false, not, refl, arith}
+use Rattle.std.proofs.lemmas.Bool.{eqb-true}
+
+pub differ_above : (k n : ℕ) → k < n → (k == n) ≡ false
+differ_above k n less = grind arith
+
+pub differ_below : (k n : ℕ) → n < k → (k == n) ≡ false
+differ_below k n less = grind arith
+
+pub below_or_same : (a b : ℕ) → a ≤ b → (a < b) ⊎ (a ≡ b)
+below_or_same a b le = grind arith
+
+pub above_unless_same : (n m : ℕ) → m ≤ n → (n == m) ≡ false → m < n
+above_unless_same n m le apart = grind arith
+
+pub below_unless_same : (n m : ℕ) → n ≤ m → (m == n) ≡ false → n < m
+below_unless_same n m le apart = grind arith
+
+-- the next page is in the same file, unless it is the first of the next one
+pub not_first : (k : ℕ) → ((k + 1) % 1024 == 0) ≡ false → k / 1024 ≡ (k + 1) / 1024
+not_first k inside =
+    let some : 0 < (k + 1) % 1024 = above_unless_same ((k + 1) % 1024) 0 (omega arith) inside in omega (arith, some)
+
+pub is_first : (k : ℕ) → ((k + 1) % 1024 == 0) ≡ true → (k + 1) / 1024 ≡ k / 1024 + 1
+is_first k first = let e : (k + 1) % 1024 ≡ 0 = eqb-true ((k + 1) % 1024) 0 first in omega (arith, e)
+
+pub not_true : (b : Bool) → not b ≡ true → b ≡ false
+not_true true e = absurd (cc)
+not_true false e = refl
+
+pub not_false : (b : Bool) → not b ≡ false → b ≡ true
+not_false true e = refl
+not_false false e = absurd (cc)
+
+pub lower_unless_same : (n m : ℕ) → n ≤ m → (n == m) ≡ false → n < m
+lower_unless_same n m le apart = grind arith

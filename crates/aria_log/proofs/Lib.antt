@@ -1,0 +1,15 @@
+pub mod Counting
+pub mod LogPages
+pub mod Sealing
+pub mod Filled
+pub mod GroupLists
+pub mod Fronts
+pub mod PutPages
+pub mod Writing
+pub mod Appending
+pub mod Images
+pub mod Logs
+pub mod Syncing
+pub mod Starting
+pub mod Cutting
+pub mod Testing

@@ -1,0 +1,7 @@
+pub mod LogPage
+pub mod Pieces
+pub mod Groups
+pub mod Files
+pub mod Log
+pub mod Spelling
+pub mod Causes

@@ -1,0 +1,32 @@
+//! The log: groups of records, appended to files of pages, that no crash tears apart.
+//!
+//! A `Log` stands over a `Host`. `append` puts a group at the end and gives its log sequence number; `force` brings all
+//! groups to the disk. At each moment a crash leaves a front of the groups that has every forced one. Pages are numbered
+//! through all files, 1,024 in each, and have a checksum. A run of pages goes from one force to the next, and counts up to
+//! its first page that isn't valid.
+//!
+//! The calls, in their order:
+//!
+//! ```text
+//! let mut log = Log::fresh(&host);                // of a folder that has no log file
+//! log.start(&mut host)?;                          // once, before the first group
+//! let lsn = log.append(&mut host, bytes)?;        // the bytes of one group; as often as wanted
+//! log.force(&mut host)?;                          // all groups are on the disk: append and force again
+//! ```
+//!
+//! `start` asks for a log that was opened on this very host; `append` and `force` ask for one that was started. After a
+//! call has answered a fault but `LogSpent` the log isn't used again. Neither `append` nor `force` takes memory.
+//! docs/FORMATS.md has the pages ("The log's pages") and the groups.
+#![tactic(auto)]
+
+mod calls;
+mod filling;
+mod log;
+mod log_page;
+mod place;
+mod start;
+
+pub use log::Log;
+
+#[cfg(test)]
+mod tests;

@@ -1,0 +1,90 @@
+ghost use Rattle.std.specs.Prelude.{IfOk, OnOk, ℕ, ◌<◌, ◌^◌};
+ghost use Rattle.aria_host.specs.MemHost.{mem_state};
+ghost use Rattle.aria_log.specs.Log.{HasNoLog, IsRunning};
+ghost use Rattle.aria_log.specs.Spelling.{IsSpelled};
+
+use crate::Log;
+use aria_host::{Fault, FileName, MemHost};
+use aria_page::{Bytes, List};
+use aria_record::{Group, Record, encode_group};
+use std::alloc::{AllocError, Global};
+use std::test::Fail;
+
+// An empty folder.
+fn empty_folder(alloc: Global) -> Result<MemHost, AllocError>
+    ensures { IfOk result (λ host. HasNoLog (mem_state host)) }
+{
+    let mut host = MemHost::new(alloc);
+    host.reserve(2000, 0)?;
+    Ok(host)
+}
+
+// The bytes of the group that is one COMMIT: ten of them (docs/FORMATS.md, "Groups").
+fn commit(alloc: Global) -> Result<Bytes, AllocError>
+    ensures { IfOk result IsSpelled }
+{
+    let mut group: Group = List::new(alloc);
+    group.push(Record::Commit)?;
+    encode_group(alloc, &group)
+}
+
+// Starts the log of a folder that has none.
+fn begin(host: &mut MemHost) -> Result<Log, Fault>
+    requires { HasNoLog (mem_state host.old) }
+    ensures { IfOk result (λ log. IsRunning log (mem_state host.new)) }
+{
+    let _file = FileName::Log(1);
+    let mut log = Log::fresh(host);
+    log.start(host)?;
+    Ok(log)
+}
+
+// Appends COMMIT so many times, and forces them.
+fn commit_all(alloc: Global, log: &mut Log, host: &mut MemHost, times: u32) -> Result<(), Fault>
+    requires { IsRunning log.old (mem_state host.old) }
+    ensures { OnOk result (IsRunning log.new (mem_state host.new)) }
+{
+    let _file = FileName::Log(1);
+    let group = commit(alloc)?;
+    for _nth in 0..times {
+        log.append(host, group.as_slice())?;
+    }
+    log.force(host)
+}
+
+// One COMMIT, forced in a folder without a log (docs/FORMATS.md).
+#[test]
+fn a_group_is_spelled_on_its_page(rt: HostRuntime) -> Result<(), Fail> {
+    let alloc = rt.alloc();
+    let mut host = empty_folder(alloc)?;
+    let mut log = begin(&mut host)?;
+    commit_all(alloc, &mut log, &mut host, 1)?;
+    let page = host.page(&FileName::Log(1), 0).ok_or("no page")?;
+    let front = [
+        0xEA, 0xA9, 0xCB, 0x6D, 0, 0, 1, 0, 0, 0, 0, 10, 1, 0, 0, 10, 0, 0, 0, 6, 1, 15, 0, 0, 0, 0,
+    ];
+    assert!(rt; page.bytes().starts_with(&front));
+    assert!(rt; page.bytes()[26..].iter().all(|byte| *byte == 0));
+    Ok(())
+}
+
+// Each force closes a page, so the 1025th is the first page of the second file.
+#[test]
+fn a_log_goes_on_in_the_next_file(rt: HostRuntime) -> Result<(), Fail> {
+    let alloc = rt.alloc();
+    let mut host = empty_folder(alloc)?;
+    let mut log = begin(&mut host)?;
+    for _nth in 0..1024 {
+        commit_all(alloc, &mut log, &mut host, 1)?;
+    }
+    assert!(rt; host.page(&FileName::Log(2), 0).is_none());
+    assert_eq!(rt; log.end().file, 2);
+    assert_eq!(rt; log.end().offset, 16);
+    commit_all(alloc, &mut log, &mut host, 1)?;
+    let page = host.page(&FileName::Log(2), 0).ok_or("no page")?;
+    let front = [
+        0xB0, 0x81, 0x73, 0xD3, 0, 0, 2, 0, 0, 0, 0, 10, 1, 0, 0, 10, 0, 0, 0, 6, 1, 15, 0, 0, 0, 0,
+    ];
+    assert!(rt; page.bytes().starts_with(&front));
+    Ok(())
+}
