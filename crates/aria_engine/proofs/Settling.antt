@@ -224,8 +224,8 @@ recovered_ends before now folder is same =
         ap (λ (b : Bool). number + page_of b) some ∙ more
 
 -- the log's pages were as they are
-pub same_ends : (old new : Folder) → SameLog old new → end_of (log_pages new) ≡ end_of (log_pages old)
-same_ends old new (inl same) = ap (λ (f : Folder). end_of (log_pages f)) same
+pub same_ends : (old new : State) → SameLog old new → end_of (log_pages new.folder) ≡ end_of (log_pages old.folder)
+same_ends old new (inl same) = ap (λ (f : Folder). end_of (log_pages f)) same.folder
 same_ends old new (inr none) = ap end_of (none.1 ∙ sym none.0)
 
 -- nothing is damaged in a log of no pages

@@ -1,5 +1,5 @@
 -- Numbers of pages and of files.
-use Rattle.std.proofs.Common.{◌≡◌, ◌==◌, ◌⊎◌, inl, inr, ℕ, suc, ◌+◌, ◌/◌, ◌%◌, ◌<◌, ◌≤◌, Bool, true, false, not, refl, arith}
+use Rattle.std.proofs.Common.{◌≡◌, ◌==◌, ◌⊎◌, ℕ, ◌+◌, ◌/◌, ◌%◌, ◌<◌, ◌≤◌, Bool, true, false, not, refl, arith}
 use Rattle.std.proofs.lemmas.Bool.{eqb-true}
 
 pub differ_above : (k n : ℕ) → k < n → (k == n) ≡ false

@@ -1,31 +1,30 @@
 -- The log's last file is cut to the log's end, and a log that was opened is started.
-use Rattle.std.proofs.Common.{◌≡◌, ◌==◌, ◌⊎◌, inl, inr, ℕ, zero, suc, ◌+◌, ◌-◌, ◌*◌, ◌/◌, ◌%◌, ◌^◌, ◌<◌, ◌≤◌, Bool, true, false, IsTrue, Option, None, Some, List, [], ◌∷◌, ◌++◌, length, take, drop, refl, sym, ◌∙◌, ap, subst, arith}
-use Rattle.std.specs.Prelude.{IsSome, All}
+use Rattle.std.proofs.Common.{◌≡◌, ◌==◌, ◌⊎◌, inl, inr, ℕ, zero, suc, ◌+◌, ◌-◌, ◌*◌, ◌/◌, ◌%◌, ◌^◌, ◌<◌, ◌≤◌, Bool, true, false, IsTrue, Option, None, Some, List, [], ◌∷◌, length, take, drop, refl, sym, ◌∙◌, ap, subst, arith}
+use Rattle.std.specs.Prelude.{IsSome}
 use Rattle.std.specs.Option.{option_map, option_map_or}
-use Rattle.std.proofs.lemmas.Bool.{cases_Bool, cases_lt, eqb-true, eq-eqb}
+use Rattle.std.proofs.lemmas.Bool.{cases_Bool, cases_lt, eqb-true}
 use Rattle.std.proofs.lemmas.List.{length-take, get_or-take, get_or_past, append-nil}
 use Rattle.std.proofs.lemmas.List.Elements.{All-nil}
 use Rattle.std.proofs.lemmas.Option.{same_Some}
 use Rattle.aria_page.specs.Page.{zero_page}
 use Rattle.aria_record.specs.Groups.{IsGroup}
 use Rattle.aria_host.specs.declared.file_name.FileName.TheVariants.{Log}
-use Rattle.aria_host.specs.Folder.{Folder, with_file, with_cut}
+use Rattle.aria_host.specs.Folder.{Folder, with_cut}
 use Rattle.aria_host.specs.State.{State}
-use Rattle.aria_host.specs.Steps.{MayCut}
 use Rattle.aria_host.specs.declared.host.Extent.{Extent}
 use Rattle.aria_host.specs.Calls.{Cuts, Removes, Syncs, Unchanged, extent_of}
 use Rattle.aria_host.specs.Seen.{page_or_zero}
 use Rattle.aria_host.proofs.Files.{with_file-same, with_file-other}
 use Rattle.aria_log.specs.declared.log.Log.{Log as LogValue}
 use Rattle.aria_log.specs.LogPage.{log_body, read_log_page}
-use Rattle.aria_log.specs.Pieces.{Piece, Pieces, LogFiles, log_files, pieces_of, next_piece, Stand, IsFront, is_full}
-use Rattle.aria_log.specs.Groups.{Logged, placed, groups_bytes, groups_from}
+use Rattle.aria_log.specs.Pieces.{Piece, Pieces, LogFiles, log_files, pieces_of, Stand, is_full}
+use Rattle.aria_log.specs.Groups.{Logged, groups_from}
 use Rattle.aria_log.specs.Files.{IsSoundLog}
-use Rattle.aria_log.specs.Log.{SameOthers, LogMoments, file_of, behind, FilesStand, HoldsRun, IsThere, IsWriting, Fills, IsAt, IsLog, IsBaseOf, AreAtRest, IsOpened, HoldsAll, Starts, EndsAt, HasNoLog, Cutting}
+use Rattle.aria_log.specs.Log.{SameOthers, LogMoments, file_of, behind, FilesStand, HoldsRun, IsThere, IsLog, AreAtRest, IsOpened, HoldsAll, Starts, EndsAt, HasNoLog, Cutting}
 use Rattle.aria_log.proofs.LogPages.{zero_reads}
 use Rattle.aria_log.proofs.Counting.{differ_above, below_or_same, above_unless_same, not_first}
 use Rattle.aria_log.proofs.Fronts.{next_none}
-use Rattle.aria_log.proofs.PutPages.{others_stay, pages_of, there_is, none_isnt}
+use Rattle.aria_log.proofs.PutPages.{others_stay, there_is, none_isnt}
 use Rattle.aria_log.proofs.Images.{next_some, no_bytes}
 use Rattle.aria_log.proofs.Writing.{OnlyNow, one_call, one_after, nothing_moves}
 use Rattle.aria_log.proofs.Starting.{none_reads, other_reads, high_piece, Shorter, shorter_front, shorter_sound, shorter_holds, shorter_again, same_shorter, low_base, rest_shorter, rest_holds, opened_shorter, remove_step}

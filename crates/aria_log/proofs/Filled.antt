@@ -3,7 +3,7 @@ use Rattle.std.proofs.Common.{◌≡◌, ℕ, ◌+◌, ◌-◌, ◌<◌, ◌≤�
 use Rattle.std.proofs.lemmas.List.{length-take}
 use Rattle.aria_page.specs.Page.{Sums, with_bytes, with_sum, zero_page}
 use Rattle.aria_log.specs.declared.log.Log.{Log as LogValue}
-use Rattle.aria_log.specs.LogPage.{log_head, log_body, log_page, read_log_page}
+use Rattle.aria_log.specs.LogPage.{log_head, log_body, read_log_page}
 use Rattle.aria_log.specs.Log.{Fills}
 use Rattle.aria_log.proofs.LogPages.{valid_reads}
 use Rattle.aria_log.proofs.Sealing.{filled_more, sealed_is_page}

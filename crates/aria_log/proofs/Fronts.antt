@@ -1,13 +1,12 @@
 -- Fronts of the log's pages: pieces that stand one behind the other, and the groups in them.
-use Rattle.std.proofs.Common.{◌≡◌, ◌==◌, ◌||◌, ◌⊎◌, inl, inr, ℕ, zero, suc, ◌+◌, ◌*◌, ◌/◌, ◌%◌, ◌<◌, ◌≤◌, Bool, true, false, cond, Option, None, Some, List, [], ◌∷◌, ◌++◌, length, take, drop, refl, sym, ◌∙◌, ap, subst, arith, append_assoc, length-append}
+use Rattle.std.proofs.Common.{◌≡◌, ◌==◌, ◌||◌, inl, inr, ℕ, suc, ◌+◌, ◌*◌, ◌/◌, ◌%◌, ◌<◌, ◌≤◌, Bool, true, false, cond, None, Some, List, [], ◌∷◌, ◌++◌, length, take, drop, refl, sym, ◌∙◌, ap, subst, arith, append_assoc}
 use Rattle.std.specs.Prelude.{option_and_then}
-use Rattle.std.specs.List.{flat_map}
-use Rattle.std.proofs.lemmas.List.{append-nil, drop-append-le}
+use Rattle.std.proofs.lemmas.List.{append-nil}
 use Rattle.std.proofs.lemmas.Bool.{eq-eqb}
 use Rattle.std.proofs.lemmas.Option.{same_Some}
 use Rattle.aria_log.specs.Pieces.{Piece, Pieces, next_piece, Stand, IsFront, may_behind, is_full}
 use Rattle.aria_log.specs.Groups.{Logged, groups_at, run_rest, groups_of_runs, groups_from}
-use Rattle.aria_log.specs.Log.{HoldRun, HoldPart, AreFull, joined}
+use Rattle.aria_log.specs.Log.{HoldPart, AreFull, joined}
 use Rattle.aria_log.proofs.Counting.{below_or_same}
 use Rattle.aria_log.proofs.GroupLists.{none_found}
 

@@ -1,9 +1,9 @@
 -- What the log's files hold after a crash: a front of the groups that has all forced ones, and no damage.
-use Rattle.std.proofs.Common.{◌≡◌, ◌⊎◌, inl, inr, ℕ, zero, suc, ◌+◌, ◌-◌, ◌*◌, ◌/◌, ◌%◌, ◌^◌, ◌<◌, ◌≤◌, Bool, true, false, cond, Option, None, Some, List, [], ◌∷◌, ◌++◌, length, take, drop, refl, sym, ◌∙◌, ap, subst, arith, append_assoc, length-append}
+use Rattle.std.proofs.Common.{◌≡◌, inl, inr, ℕ, zero, suc, ◌+◌, ◌*◌, ◌/◌, ◌%◌, ◌≤◌, Bool, true, false, cond, Option, None, Some, List, [], ◌∷◌, ◌++◌, length, take, drop, refl, sym, ◌∙◌, ap, subst, arith, append_assoc, length-append}
 use Rattle.std.specs.Prelude.{All, IsSome, option_and_then, ◌||◌}
 use Rattle.std.specs.List.{flat_map}
 use Rattle.std.specs.Option.{option_map_or}
-use Rattle.std.proofs.lemmas.Bool.{cases_Bool, cases_lt}
+use Rattle.std.proofs.lemmas.Bool.{cases_lt}
 use Rattle.std.proofs.lemmas.Grind.{flat_map-append}
 use Rattle.std.proofs.lemmas.List.{append-nil, take-append-drop, take-append-le, take_all, length-take, length_push}
 use Rattle.std.proofs.lemmas.List.Elements.{All-push}
@@ -11,14 +11,13 @@ use Rattle.std.proofs.lemmas.Option.{same_Some}
 use Rattle.aria_record.specs.declared.record.Record.{Record}
 use Rattle.aria_record.specs.Groups.{IsGroup}
 use Rattle.aria_record.specs.Spelled.{group_bytes}
-use Rattle.aria_host.specs.declared.file_name.FileName.TheVariants.{Log}
-use Rattle.aria_log.specs.Pieces.{Piece, Pieces, LogFiles, pieces_of, next_piece, Stand, IsFront, may_behind}
+use Rattle.aria_log.specs.Pieces.{Piece, Pieces, LogFiles, pieces_of, next_piece, Stand, may_behind}
 use Rattle.aria_log.specs.Groups.{Logged, placed, groups_bytes, groups_at, groups_from}
-use Rattle.aria_log.specs.Files.{HoldsLog, IsUsed, IsBase, IsSoundLog, HoldsFrom}
-use Rattle.aria_log.specs.Log.{HoldRun, HoldPart, AreFull, joined, file_of, behind, FilesStand, HoldsRun, IsImage, IsStrict, IsBaseOf}
+use Rattle.aria_log.specs.Files.{HoldsLog, IsBase, IsSoundLog, HoldsFrom}
+use Rattle.aria_log.specs.Log.{AreFull, joined, file_of, behind, FilesStand, HoldsRun, IsImage, IsStrict, IsBaseOf}
 use Rattle.aria_log.proofs.Counting.{below_or_same}
 use Rattle.aria_log.proofs.PutPages.{none_isnt}
-use Rattle.aria_log.proofs.GroupLists.{HoldsFront, front_holds, all_found}
+use Rattle.aria_log.proofs.GroupLists.{HoldsFront, front_holds}
 use Rattle.aria_log.proofs.Fronts.{Left, part_left, stand-append, may_behind-append, pieces_of_run, length-pieces_of_run, groups-append}
 
 -- ---- placed groups

@@ -1,27 +1,23 @@
 -- Groups that are appended, and groups that are forced.
-use Rattle.std.proofs.Common.{◌≡◌, inl, inr, ℕ, zero, suc, ◌+◌, ◌*◌, ◌/◌, ◌%◌, ◌<◌, ◌≤◌, ◌^◌, Bool, true, false, IsTrue, Option, None, Some, List, [], ◌∷◌, ◌++◌, length, take, drop, refl, sym, ◌∙◌, ap, subst, arith, append_assoc, length-append}
-use Rattle.std.specs.Prelude.{All, IsSome, ◌||◌, ◌==◌}
+use Rattle.std.proofs.Common.{◌≡◌, ℕ, ◌+◌, ◌*◌, ◌/◌, ◌≤◌, Bool, true, false, List, [], ◌∷◌, ◌++◌, length, drop, refl, sym, ◌∙◌, ap, subst, arith, append_assoc, length-append}
+use Rattle.std.specs.Prelude.{All, ◌||◌, ◌==◌}
 use Rattle.std.specs.List.{flat_map}
-use Rattle.std.proofs.lemmas.List.{append-nil, length_push, nil_from_length}
+use Rattle.std.proofs.lemmas.List.{append-nil}
 use Rattle.std.proofs.lemmas.List.Elements.{All-push, All-nil, All-head, All-tail}
-use Rattle.aria_page.specs.Page.{Sums}
 use Rattle.aria_record.specs.declared.record.Record.{Record}
 use Rattle.aria_record.specs.Groups.{IsGroup}
-use Rattle.aria_record.specs.Spelled.{content_bytes, group_bytes}
-use Rattle.aria_host.specs.Folder.{Folder}
+use Rattle.aria_record.specs.Spelled.{group_bytes}
 use Rattle.aria_host.specs.State.{State}
 use Rattle.aria_log.specs.declared.log.Log.{Log as LogValue}
-use Rattle.aria_log.specs.LogPage.{read_log_page}
 use Rattle.aria_log.specs.Pieces.{Piece, Pieces, LogFiles, log_files, pieces_of, Stand, may_behind}
 use Rattle.aria_log.specs.Groups.{Logged, placed, groups_bytes, groups_at, groups_from}
 use Rattle.aria_log.specs.Files.{HoldsFrom}
-use Rattle.aria_log.specs.Log.{LogMoments, LogKeeps, HoldRun, AreFull, joined, file_of, behind, FilesStand, HoldsRun, IsImage, IsStrict, IsThere, IsWriting, Fills, IsAt, IsLog, IsBaseOf, place, Wrote, Synced}
+use Rattle.aria_log.specs.Log.{LogMoments, LogKeeps, HoldRun, AreFull, joined, file_of, behind, FilesStand, HoldsRun, IsImage, IsStrict, IsThere, IsAt, IsLog, IsBaseOf, place, Wrote, Synced}
 use Rattle.aria_log.proofs.GroupLists.{all_found, length-group_bytes}
 use Rattle.aria_log.proofs.Fronts.{stand-append, next_of, pieces_of_run, length-pieces_of_run, groups-append}
-use Rattle.aria_log.proofs.LogPages.{read_is_valid}
-use Rattle.aria_log.proofs.Writing.{OnlyNow, one_after, more_at_log, nothing_moves, full_are, full_more, joined_push, behind_push, run_is_image}
+use Rattle.aria_log.proofs.Writing.{OnlyNow, one_after, more_at_log, nothing_moves, full_more, joined_push, behind_push, run_is_image}
 use Rattle.aria_log.proofs.Appending.{image_now}
-use Rattle.aria_log.proofs.Images.{no_bytes, length-placed, placed-push, bytes-push, base_even, image_from, strict_from}
+use Rattle.aria_log.proofs.Images.{no_bytes, placed-push, bytes-push, base_even, image_from, strict_from}
 
 -- ---- appending
 

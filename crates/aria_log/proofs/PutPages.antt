@@ -1,9 +1,8 @@
 -- A page of the log is put into its file, or a file is made: what the pages hold then.
-use Rattle.std.proofs.Common.{◌≡◌, ◌==◌, ◌∙◌, ◌⊎◌, inl, inr, ℕ, zero, suc, ◌+◌, ◌-◌, ◌*◌, ◌<◌, ◌≤◌, ◌/◌, ◌%◌, ◌^◌, max, Bool, true, false, IsTrue, cond, Option, None, Some, List, [], ◌∷◌, ◌++◌, length, ap, sym, refl, subst, arith, rules}
+use Rattle.std.proofs.Common.{◌≡◌, ◌==◌, ◌∙◌, ◌⊎◌, inl, inr, ℕ, ◌≤◌, ◌/◌, ◌%◌, Bool, true, false, cond, Option, None, Some, List, [], length, ap, sym, refl, subst, arith, rules}
 use Rattle.std.specs.Prelude.{IsSome}
 use Rattle.std.specs.Option.{option_map, option_map_or}
 use Rattle.std.proofs.lemmas.Bool.{cases_Bool, eqb-true, eq-eqb, false_from_ne_true}
-use Rattle.aria_page.specs.Page.{zero_page}
 use Rattle.aria_host.specs.declared.file_name.FileName.{FileName}
 use Rattle.aria_host.specs.declared.file_name.FileName.TheVariants.{Control, Log, Keys, Rows, NewKeys, NewRows}
 use Rattle.aria_host.specs.Folder.{Folder, is_log, same_file, put_page, with_file, with_page}
@@ -11,9 +10,9 @@ use Rattle.aria_host.specs.Steps.{MayWrite, MayMake}
 use Rattle.aria_host.specs.Seen.{page_or_zero}
 use Rattle.aria_host.proofs.Files.{get_or-put_page, length-put_page, with_file-same, with_file-other}
 use Rattle.aria_log.specs.LogPage.{read_log_page}
-use Rattle.aria_log.specs.Pieces.{Piece, Pieces, LogFiles, log_files, pieces_of}
+use Rattle.aria_log.specs.Pieces.{Piece, log_files, pieces_of}
 use Rattle.aria_log.specs.Log.{SameOthers}
-use Rattle.aria_log.proofs.LogPages.{zero_reads, torn_reads}
+use Rattle.aria_log.proofs.LogPages.{torn_reads}
 
 -- a file that isn't a log file is another than a log file
 no_log : (f : ℕ) (g : FileName) → is_log g ≡ false → same_file (Log f) g ≡ false

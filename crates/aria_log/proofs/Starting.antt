@@ -1,8 +1,8 @@
 -- A log that is started: later files are removed, and the last one is cut to the log's end.
-use Rattle.std.proofs.Common.{◌≡◌, ◌==◌, ◌⊎◌, inl, inr, ℕ, zero, suc, ◌+◌, ◌-◌, ◌*◌, ◌/◌, ◌%◌, ◌^◌, ◌<◌, ◌≤◌, Bool, true, false, IsTrue, Option, None, Some, List, [], ◌∷◌, ◌++◌, length, take, refl, sym, ◌∙◌, ap, subst, arith}
-use Rattle.std.specs.Prelude.{IsSome, option_and_then, ◌||◌, cond}
-use Rattle.std.specs.Option.{option_map, option_map_or}
-use Rattle.std.proofs.lemmas.Bool.{cases_Bool, cases_lt, eqb-true, eq-eqb}
+use Rattle.std.proofs.Common.{◌≡◌, ◌==◌, ◌⊎◌, inl, inr, ℕ, ◌+◌, ◌-◌, ◌/◌, ◌%◌, ◌^◌, ◌<◌, ◌≤◌, Bool, true, false, IsTrue, Option, None, Some, List, length, refl, sym, ◌∙◌, ap, subst, arith}
+use Rattle.std.specs.Prelude.{IsSome}
+use Rattle.std.specs.Option.{option_map_or}
+use Rattle.std.proofs.lemmas.Bool.{cases_Bool, cases_lt, eqb-true}
 use Rattle.aria_host.specs.declared.file_name.FileName.TheVariants.{Log}
 use Rattle.aria_host.specs.Folder.{Folder, with_file}
 use Rattle.aria_host.specs.State.{State}
@@ -12,16 +12,16 @@ use Rattle.aria_host.specs.Seen.{page_or_zero}
 use Rattle.aria_host.proofs.Files.{with_file-same, with_file-other}
 use Rattle.aria_log.specs.declared.log.Log.{Log as LogValue}
 use Rattle.aria_log.specs.LogPage.{IsLogPage, read_log_page}
-use Rattle.aria_log.specs.Pieces.{Piece, Pieces, LogFiles, log_files, pieces_of, next_piece, Stand, IsFront, may_behind}
-use Rattle.aria_log.specs.Groups.{Logged, groups_from}
-use Rattle.aria_log.specs.Files.{HoldsLog, IsUsed, IsBase, IsSoundLog}
-use Rattle.aria_log.specs.Log.{SameOthers, LogMoments, file_of, IsBaseOf, AreAtRest, IsOpened, HoldsAll, Starts}
+use Rattle.aria_log.specs.Pieces.{Piece, LogFiles, log_files, pieces_of, Stand, IsFront, may_behind}
+use Rattle.aria_log.specs.Groups.{Logged}
+use Rattle.aria_log.specs.Files.{IsSoundLog}
+use Rattle.aria_log.specs.Log.{SameOthers, file_of, IsBaseOf, AreAtRest, IsOpened, HoldsAll, Starts}
 use Rattle.aria_log.proofs.LogPages.{zero_reads, no_read}
-use Rattle.aria_log.proofs.Counting.{differ_below, differ_above, lower_unless_same}
+use Rattle.aria_log.proofs.Counting.{differ_below, lower_unless_same}
 use Rattle.aria_log.proofs.Fronts.{stand_same, next_same, next_none}
 use Rattle.aria_log.proofs.PutPages.{none_isnt, others_stay}
 use Rattle.aria_log.proofs.Images.{base_in}
-use Rattle.aria_log.proofs.Writing.{OnlyNow, one_call, one_after, nothing_moves}
+use Rattle.aria_log.proofs.Writing.{OnlyNow, one_call}
 
 -- no page of a file that isn't there holds anything
 pub none_reads : (files : LogFiles) (n : ℕ) → files (n / 1024) ≡ None → pieces_of files n ≡ None

@@ -1,7 +1,7 @@
 -- The files of a run are brought to the disk, one after the other.
-use Rattle.std.proofs.Common.{◌≡◌, ◌==◌, ◌⊎◌, inl, inr, ℕ, zero, suc, ◌+◌, ◌-◌, ◌*◌, ◌/◌, ◌%◌, ◌<◌, ◌≤◌, ◌^◌, Bool, true, false, IsTrue, Option, None, Some, List, [], ◌∷◌, length, refl, sym, ◌∙◌, ap, subst, arith}
+use Rattle.std.proofs.Common.{◌≡◌, inl, inr, ℕ, ◌+◌, ◌-◌, ◌/◌, ◌%◌, ◌<◌, ◌≤◌, Bool, true, false, IsTrue, Option, List, [], ◌∷◌, length, refl, sym, ◌∙◌, ap, subst, arith}
 use Rattle.std.specs.Prelude.{IsSome}
-use Rattle.std.proofs.lemmas.Bool.{cases_Bool, cases_lt}
+use Rattle.std.proofs.lemmas.Bool.{cases_lt}
 use Rattle.aria_host.specs.declared.file_name.FileName.TheVariants.{Log}
 use Rattle.aria_host.specs.Folder.{Folder}
 use Rattle.aria_host.specs.State.{State}
@@ -9,7 +9,7 @@ use Rattle.aria_host.specs.Calls.{Syncs}
 use Rattle.aria_host.specs.Seen.{page_or_zero}
 use Rattle.aria_log.specs.LogPage.{read_log_page}
 use Rattle.aria_log.specs.Pieces.{Piece, Pieces, LogFiles, log_files, pieces_of}
-use Rattle.aria_log.specs.Log.{SameOthers, LogMoments, HoldRun, HoldPart, file_of, behind, HoldsRun, IsThere, IsWriting, Synced, SyncedUpTo}
+use Rattle.aria_log.specs.Log.{LogMoments, HoldRun, behind, HoldsRun, IsThere, IsWriting, Synced, SyncedUpTo}
 use Rattle.aria_log.proofs.Counting.{below_or_same}
 use Rattle.aria_log.proofs.PutPages.{none_isnt}
 use Rattle.aria_log.proofs.Writing.{OnlyNow, one_call, one_after, nothing_moves}

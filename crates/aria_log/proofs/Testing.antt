@@ -8,7 +8,6 @@ use Rattle.aria_host.specs.Folder.{Folder}
 use Rattle.aria_host.specs.Effect.{no_files, MayLeave, reads}
 use Rattle.aria_host.specs.MemHost.{mem_state}
 use Rattle.aria_page.specs.Number.{number}
-use Rattle.aria_record.specs.declared.record.Record.{Record}
 use Rattle.aria_record.specs.declared.record.Record.TheVariants.{Commit}
 use Rattle.aria_record.specs.Groups.{IsGroup}
 use Rattle.aria_log.specs.Log.{HasNoLog}

@@ -1,26 +1,24 @@
 -- What a write at the end of the log does, at each moment.
-use Rattle.std.proofs.Common.{◌≡◌, ◌==◌, ◌⊎◌, inl, inr, ℕ, zero, suc, ◌+◌, ◌-◌, ◌/◌, ◌%◌, ◌^◌, ◌<◌, ◌≤◌, Bool, true, false, IsTrue, cond, not, Option, None, Some, List, [], ◌∷◌, ◌++◌, length, take, refl, sym, ◌∙◌, ap, subst, arith, rules, length-append, append_assoc}
+use Rattle.std.proofs.Common.{◌≡◌, ◌==◌, ◌⊎◌, inl, inr, ℕ, zero, suc, ◌+◌, ◌-◌, ◌/◌, ◌%◌, ◌^◌, ◌<◌, ◌≤◌, Bool, true, false, IsTrue, cond, not, Option, None, Some, List, [], ◌∷◌, ◌++◌, length, take, refl, sym, ◌∙◌, ap, subst, arith, rules}
 use Rattle.std.specs.Prelude.{IsSome, IsNone, All}
-use Rattle.std.specs.List.{flat_map}
 use Rattle.std.specs.Option.{option_map_or}
-use Rattle.std.proofs.lemmas.Bool.{cases_Bool, eqb-true, eq-eqb, false_from_ne_true}
+use Rattle.std.proofs.lemmas.Bool.{cases_Bool, eqb-true, eq-eqb}
 use Rattle.std.proofs.lemmas.Grind.{flat_map-append}
 use Rattle.std.proofs.lemmas.List.{append-nil, length_push}
 use Rattle.std.proofs.lemmas.List.Elements.{All-head, All-tail}
-use Rattle.aria_host.specs.declared.file_name.FileName.{FileName}
 use Rattle.aria_host.specs.declared.file_name.FileName.TheVariants.{Log}
-use Rattle.aria_host.specs.Folder.{Folder, is_log, with_file, with_page}
+use Rattle.aria_host.specs.Folder.{Folder, with_file, with_page}
 use Rattle.aria_host.specs.State.{State}
 use Rattle.aria_host.specs.Steps.{MayWrite, MayMake}
 use Rattle.aria_host.specs.Calls.{Writes, Creates, TellsNothing}
 use Rattle.aria_host.proofs.Moments.{started, goes_on, joined as runs_joined, weakened}
 use Rattle.aria_log.specs.declared.log.Log.{Log as LogValue}
 use Rattle.aria_log.specs.LogPage.{read_log_page}
-use Rattle.aria_log.specs.Pieces.{Piece, Pieces, LogFiles, log_files, pieces_of, Stand}
-use Rattle.aria_log.specs.Log.{SameOthers, LeavesOthers, AtLog, LogMoments, HoldRun, HoldPart, AreFull, joined, file_of, behind, FilesStand, HoldsRun, IsImage, IsThere, IsWriting, Fills, Makes, Wrote}
-use Rattle.aria_log.proofs.Counting.{differ_above, differ_below, below_or_same, below_unless_same, not_first, is_first, not_true, not_false}
+use Rattle.aria_log.specs.Pieces.{Piece, Pieces, LogFiles, log_files, pieces_of}
+use Rattle.aria_log.specs.Log.{SameOthers, AtLog, LogMoments, HoldRun, HoldPart, AreFull, joined, file_of, behind, FilesStand, HoldsRun, IsImage, IsThere, IsWriting, Fills, Makes, Wrote}
+use Rattle.aria_log.proofs.Counting.{differ_above, differ_below, below_unless_same, not_first, is_first, not_true, not_false}
 use Rattle.aria_log.proofs.Fronts.{stand_same}
-use Rattle.aria_log.proofs.PutPages.{none_isnt, others_stay, piece_put, MayPut, page_puts, write_puts, pages_of, make_keeps}
+use Rattle.aria_log.proofs.PutPages.{none_isnt, others_stay, piece_put, MayPut, write_puts, pages_of, make_keeps}
 
 -- ---- moments
 

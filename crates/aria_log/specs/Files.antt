@@ -1,5 +1,5 @@
 -- The log that the files of a folder hold.
-use Rattle.std.specs.Prelude.{◌≡◌, ◌⊎◌, ℕ, ◌+◌, ◌/◌, ◌%◌, ◌^◌, ◌<◌, ◌≤◌, true, false, Bool, Option, None, Some, IsSome, List, length, take}
+use Rattle.std.specs.Prelude.{◌≡◌, ◌⊎◌, ℕ, ◌+◌, ◌/◌, ◌%◌, ◌^◌, ◌<◌, ◌≤◌, true, false, Some, IsSome, List, length, take}
 use Rattle.std.specs.Option.{option_map_or}
 use Rattle.aria_log.specs.Pieces.{Piece, Pieces, LogFiles, pieces_of, IsFront}
 use Rattle.aria_log.specs.Groups.{Logged, groups_from}

@@ -1,5 +1,5 @@
 -- What the log's pages hold, by their numbers: page p of file f has number 1024 * f + p.
-use Rattle.std.specs.Prelude.{◌≡◌, ◌==◌, ◌||◌, if◌then◌else◌, ⊤, ℕ, ◌+◌, ◌/◌, ◌%◌, Bool, Option, None, Some, List, [], ◌∷◌, ◌++◌, length, option_and_then}
+use Rattle.std.specs.Prelude.{◌≡◌, ◌==◌, ◌||◌, if◌then◌else◌, ⊤, ℕ, ◌+◌, ◌/◌, ◌%◌, Bool, Option, None, Some, List, [], ◌∷◌, length, option_and_then}
 use Rattle.aria_host.specs.declared.file_name.FileName.TheVariants.{Log}
 use Rattle.aria_host.specs.Folder.{Folder}
 use Rattle.aria_host.specs.Seen.{page_or_zero}

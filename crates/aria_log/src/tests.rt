@@ -25,7 +25,8 @@ fn commit(alloc: Global) -> Result<Bytes, AllocError>
 {
     let mut group: Group = List::new(alloc);
     group.push(Record::Commit)?;
-    encode_group(alloc, &group)
+    let bytes = encode_group(alloc, &group)?;
+    Ok(bytes)
 }
 
 // Starts the log of a folder that has none.
@@ -49,7 +50,20 @@ fn commit_all(alloc: Global, log: &mut Log, host: &mut MemHost, times: u32) -> R
     for _nth in 0..times {
         log.append(host, group.as_slice())?;
     }
-    log.force(host)
+    log.force(host)?;
+    Ok(())
+}
+
+// Appends COMMIT and forces it, so many times.
+fn force_all(alloc: Global, log: &mut Log, host: &mut MemHost, times: u32) -> Result<(), Fault>
+    requires { IsRunning log.old (mem_state host.old) }
+    ensures { OnOk result (IsRunning log.new (mem_state host.new)) }
+{
+    let _file = FileName::Log(1);
+    for _nth in 0..times {
+        commit_all(alloc, log, host, 1)?;
+    }
+    Ok(())
 }
 
 // One COMMIT, forced in a folder without a log (docs/FORMATS.md).
@@ -74,9 +88,7 @@ fn a_log_goes_on_in_the_next_file(rt: HostRuntime) -> Result<(), Fail> {
     let alloc = rt.alloc();
     let mut host = empty_folder(alloc)?;
     let mut log = begin(&mut host)?;
-    for _nth in 0..1024 {
-        commit_all(alloc, &mut log, &mut host, 1)?;
-    }
+    force_all(alloc, &mut log, &mut host, 1024)?;
     assert!(rt; host.page(&FileName::Log(2), 0).is_none());
     assert_eq!(rt; log.end().file, 2);
     assert_eq!(rt; log.end().offset, 16);

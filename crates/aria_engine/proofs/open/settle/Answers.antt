@@ -3,9 +3,20 @@ use Rattle.aria_host.specs.Folder.{Folder}
 use Rattle.aria_host.proofs.Answered.{on_ok}
 use Rattle.aria_host.proofs.Moments.{looks}
 use Rattle.aria_journal.specs.Log.{log_file}
-use Rattle.aria_engine.proofs.Settling.{not_found, image_there, created_rest, created_same, synced_rest, synced_same}
+use Rattle.aria_engine.proofs.Settling.{keeps_then, unchanged_keeps, created_keeps, not_found, image_there, created_rest, created_same, synced_rest, synced_same}
 use Rattle.aria_engine.proofs.Opening.{created_opens, synced_opens, looked_opens}
 use Rattle.aria_engine.proofs.open.settle.Goals as goal
+
+pub returns-in-None-clause-keeps : goal.returns-in-None-clause-keeps
+returns-in-None-clause-keeps g c = λ told.
+    let s0 = g.H.Host.state c.args.host.now in
+    let s1 = g.H.Host.state c.look.new.self in
+    let s2 = g.H.Host.state c.create.new.self in
+    let same = c.in_ok-look.ensures.same told in
+    keeps_then s0 s1 s2 (unchanged_keeps s0 s1 (λ f b left. g.met.H.Host.only_now c.args.host.now f b told left) same)
+    (created_keeps s1 s2 _ (λ f b left. g.met.H.Host.only_now c.look.new.self f b told left) (g.met.H.Host.reads_now c.look.new.self told)
+    (ap (λ (f : Folder). f log_file) same.folder ∙ not_found s0.folder c.in_ok-look.field-0 (c.in_ok-look.ensures.found told) c.in-None.is)
+    (c.create.ensures.created told))
 
 pub returns-in-None-clause-opens : goal.returns-in-None-clause-opens
 returns-in-None-clause-opens g c = λ told.

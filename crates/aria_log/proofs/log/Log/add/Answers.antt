@@ -1,4 +1,4 @@
-use Rattle.std.proofs.Common.{◌≡◌, ◌∙◌, ◌++◌, sym, ap, arith, List, ℕ, [], take, refl, subst}
+use Rattle.std.proofs.Common.{◌∙◌, ◌++◌, sym, arith, List, ℕ, take, refl, subst}
 use Rattle.std.proofs.lemmas.List.{append-nil, take_rest}
 use Rattle.aria_log.specs.Log.{IsAt}
 use Rattle.aria_log.proofs.Appending.{first_moments, next_at, next_moments, all_at}

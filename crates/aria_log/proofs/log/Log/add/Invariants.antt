@@ -1,4 +1,4 @@
-use Rattle.std.proofs.Common.{◌≡◌, ◌≤◌, ◌+◌, ◌-◌, ℕ, List, ◌++◌, take, length, true, IsTrue}
+use Rattle.std.proofs.Common.{◌≡◌, ◌≤◌, ◌+◌, ◌-◌, ℕ, List, ◌++◌, take, length, IsTrue}
 use Rattle.aria_log.specs.Pieces.{Piece}
 use Rattle.aria_log.specs.Log.{IsAt, IsStrict, LogMoments, place}
 use Rattle.aria_log.proofs.log.Log.add.Given as goal

@@ -1,5 +1,3 @@
-use Rattle.std.proofs.Common.{◌≡◌, ◌++◌, List, ℕ, refl, is_ok}
-use Rattle.aria_host.proofs.Answered.{on_ok, on_ok_of}
 use Rattle.aria_log.specs.Groups.{groups_bytes}
 use Rattle.aria_log.proofs.Logs.{appended, append_keeps, group_some, idle_keeps}
 use Rattle.aria_log.proofs.log.Log.append.Goals as goal

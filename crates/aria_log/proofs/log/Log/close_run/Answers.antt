@@ -1,4 +1,4 @@
-use Rattle.std.proofs.Common.{◌≡◌, ◌∙◌, ◌≤◌, ◌<◌, ℕ, List, true, length, refl, sym, arith, ap}
+use Rattle.std.proofs.Common.{◌∙◌, ◌≤◌, length, refl, sym, arith}
 use Rattle.aria_log.proofs.Logs.{closed, closed_keeps, unwritten_keeps}
 use Rattle.aria_log.proofs.Writing.{behind_push}
 use Rattle.aria_log.proofs.log.Log.close_run.Goals as goal

@@ -1,4 +1,4 @@
-use Rattle.std.proofs.Common.{◌≡◌, ◌∙◌, ◌≤◌, sym, arith, length, true, false, Bool, is_ok}
+use Rattle.std.proofs.Common.{arith, is_ok}
 use Rattle.aria_host.proofs.Answered.{on_ok}
 use Rattle.aria_log.specs.Pieces.{log_files}
 use Rattle.aria_log.specs.Log.{HoldsAll}

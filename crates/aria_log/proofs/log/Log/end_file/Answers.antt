@@ -1,9 +1,8 @@
-use Rattle.std.proofs.Common.{◌≡◌, ◌∙◌, ◌/◌, sym, ap, subst, ℕ, List, Option, None, Some, length, refl}
+use Rattle.std.proofs.Common.{◌∙◌, ◌/◌, sym, ap, ℕ}
 use Rattle.aria_host.specs.declared.file_name.FileName.TheVariants.{Log}
 use Rattle.aria_host.specs.Folder.{Folder}
-use Rattle.aria_host.specs.Calls.{extent_of}
 use Rattle.aria_log.specs.Pieces.{log_files}
-use Rattle.aria_log.specs.Log.{HoldsAll, EndsAt}
+use Rattle.aria_log.specs.Log.{HoldsAll}
 use Rattle.aria_log.proofs.Writing.{one_after}
 use Rattle.aria_log.proofs.Cutting.{look_opened, look_keeps, no_file_ends, found_none, found_some}
 use Rattle.aria_log.proofs.log.Log.end_file.Goals as goal

@@ -1,10 +1,8 @@
-use Rattle.std.proofs.Common.{◌≡◌, ◌∙◌, Bool, true, false, IsTrue, is_ok, sym, ap, subst, List, ℕ, Option, ◌/◌, None}
-use Rattle.std.specs.Prelude.{IsNone}
+use Rattle.std.proofs.Common.{Bool, true, false, is_ok, sym, ap, subst, ℕ, ◌/◌}
 use Rattle.std.proofs.lemmas.Result.{err_from_is_err_and}
 use Rattle.aria_host.specs.declared.file_name.FileName.TheVariants.{Log}
 use Rattle.aria_host.specs.Calls.{Creates}
-use Rattle.aria_log.specs.Pieces.{Piece}
-use Rattle.aria_log.specs.Log.{IsWriting, Makes}
+use Rattle.aria_log.specs.Log.{IsWriting}
 use Rattle.aria_log.proofs.Writing.{make_step, made_already, absent_file}
 use Rattle.aria_log.proofs.log.Log.make_file.Goals as goal
 

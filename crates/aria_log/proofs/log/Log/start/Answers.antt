@@ -1,4 +1,4 @@
-use Rattle.std.proofs.Common.{refl, ◌≡◌, ◌/◌}
+use Rattle.std.proofs.Common.{refl}
 use Rattle.aria_log.specs.Log.{HoldsAll}
 use Rattle.aria_log.proofs.Writing.{one_after}
 use Rattle.aria_log.proofs.Cutting.{started_log}

@@ -1,4 +1,4 @@
-use Rattle.std.proofs.Common.{refl, ◌∙◌}
+use Rattle.std.proofs.Common.{refl}
 use Rattle.aria_log.proofs.Appending.{filled_at}
 use Rattle.aria_log.proofs.log.Log.step.Goals as goal
 

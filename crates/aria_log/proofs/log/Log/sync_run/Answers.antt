@@ -1,7 +1,6 @@
-use Rattle.std.proofs.Common.{◌≡◌, ◌∙◌, ◌≤◌, ◌<◌, ◌+◌, ◌-◌, ◌/◌, ℕ, List, Bool, false, true, refl, sym, ap, subst, arith, is_ok, length}
+use Rattle.std.proofs.Common.{◌≡◌, ◌∙◌, ◌+◌, ◌/◌, ℕ, refl, sym, ap, subst, arith, is_ok, length}
 use Rattle.std.proofs.lemmas.Result.{err_from_is_err_and}
-use Rattle.aria_log.specs.Pieces.{Piece}
-use Rattle.aria_log.specs.Log.{behind, SyncedUpTo}
+use Rattle.aria_log.specs.Log.{SyncedUpTo}
 use Rattle.aria_log.proofs.Syncing.{file_there, synced_none, synced_more, synced_failed, synced_all}
 use Rattle.aria_log.proofs.log.Log.sync_run.Goals as goal
 

@@ -1,4 +1,4 @@
-use Rattle.std.proofs.Common.{◌≡◌, ◌≤◌, ◌<◌, ◌-◌, ◌+◌, ◌/◌, ℕ, List, true, IsTrue, length}
+use Rattle.std.proofs.Common.{◌≡◌, ◌≤◌, ◌+◌, ◌/◌, ℕ, List, IsTrue, length}
 use Rattle.aria_log.specs.Pieces.{Piece}
 use Rattle.aria_log.specs.Log.{IsWriting, behind, SyncedUpTo}
 use Rattle.aria_log.proofs.log.Log.sync_run.Given as goal

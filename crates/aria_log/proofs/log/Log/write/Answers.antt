@@ -1,6 +1,5 @@
-use Rattle.std.proofs.Common.{◌≡◌, ◌∙◌, Bool, true, is_ok, ap, subst, refl, sym, List, ℕ, drop}
+use Rattle.std.proofs.Common.{◌∙◌, is_ok, ap, refl, List, ℕ, drop}
 use Rattle.std.proofs.lemmas.Result.{err_from_is_err_and}
-use Rattle.aria_log.specs.Pieces.{Piece}
 use Rattle.aria_log.specs.Log.{Fills, behind}
 use Rattle.aria_log.proofs.Appending.{wrote_after, wrote_nothing}
 use Rattle.aria_log.proofs.log.Log.write.Goals as goal

@@ -1,6 +1,6 @@
 use Rattle.aria_host.specs.MemHost.{mem_state}
 use Rattle.aria_log.specs.Log.{IsRunning}
-use Rattle.aria_log.proofs.tests.a_log_goes_on_in_the_next_file.Given as goal
+use Rattle.aria_log.proofs.tests.force_all.Given as goal
 
 abbrev pub invariant-loop-nth : goal.invariant-loop-nth
 invariant-loop-nth l = IsRunning l.log (mem_state l.host)
