@@ -13,3 +13,4 @@ pub mod Syncing
 pub mod Starting
 pub mod Cutting
 pub mod Testing
+pub mod Zeros

@@ -151,10 +151,10 @@ closed log log1 log2 old mid new base groups forced is some wrote synced page nu
         held = [];
         writing = record {
           run = tt;
-          reads = run_whole (log_files new.folder) base whole parts synced.writing.reads synced.writing.run full;
-          now = subst (λ (n : ℕ). IsThere log2.there (log_files new.folder) n) (sym size) (subst (λ (b : Bool). IsThere b (log_files new.folder) (behind base whole parts)) (sym there) synced.writing.now);
-          images = λ c leaves. run_whole (log_files c) base whole parts (synced.writing.images c leaves) (synced.durable refl c leaves) full;
-          each = λ c leaves. subst (λ (n : ℕ). IsThere log2.there (log_files c) n) (sym size) (subst (λ (b : Bool). IsThere b (log_files c) (behind base whole parts)) (sym there) (synced.writing.each c leaves));
+          reads = run_whole (log_files new.folder) base whole parts (synced.writing refl).reads (synced.writing refl).run full;
+          now = subst (λ (n : ℕ). IsThere log2.there (log_files new.folder) n) (sym size) (subst (λ (b : Bool). IsThere b (log_files new.folder) (behind base whole parts)) (sym there) (synced.writing refl).now);
+          images = λ c leaves. run_whole (log_files c) base whole parts ((synced.writing refl).images c leaves) (synced.durable refl c leaves) full;
+          each = λ c leaves. subst (λ (n : ℕ). IsThere log2.there (log_files c) n) (sym size) (subst (λ (b : Bool). IsThere b (log_files c) (behind base whole parts)) (sym there) ((synced.writing refl).each c leaves));
         };
         full = All-nil (λ (bytes : List ℕ). length bytes ≡ 8176);
         first = first ∙ omega (arith, at_number, size);

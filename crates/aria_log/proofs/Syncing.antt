@@ -78,7 +78,7 @@ pub synced_failed : (start old new : State) (f base : ℕ) (whole : List Piece) 
 synced_failed start old new f base whole parts there done failed only so_far syncs is_failed =
     let next = sync_keeps old new f base whole parts there done only so_far.writing syncs in
     record {
-      writing = next.0;
+      writing = λ finished. next.0;
       durable = λ finished. absurd (not_done failed is_failed finished);
       keeps = one_after start old new (HoldsRun base whole parts) so_far.keeps next.1;
     }
@@ -97,7 +97,7 @@ same_run a b n begins (bytes ∷ parts) same run =
 pub synced_all : (start new : State) (f base : ℕ) (whole : List Piece) (parts : List (List ℕ)) (there : Bool) → SyncedUpTo start new base whole parts there f → (behind base whole parts - 1) / 1024 + 1 ≤ f
     → Synced start new base whole parts there true
 synced_all start new f base whole parts there is all = record {
-  writing = is.writing;
+  writing = λ finished. is.writing;
   durable = λ done c leaves. same_run (pieces_of (log_files new.folder)) (pieces_of (log_files c)) (base / 8176 + length whole) true parts
       (λ k from below. is.durable c leaves k from (omega (arith, all, below)) below) is.writing.run;
   keeps = is.keeps;

@@ -95,7 +95,7 @@ part_same a b n begins (bytes ∷ parts) same part = (
   part_same a b (n + 1) false parts (λ k below. same k (omega (arith, below))) part.1,
 )
 
-run_same : (a b : Pieces) (n : ℕ) (begins : Bool) (parts : List (List ℕ)) → ((k : ℕ) → k < n + length parts → b k ≡ a k) → HoldRun a n begins parts → HoldRun b n begins parts
+pub run_same : (a b : Pieces) (n : ℕ) (begins : Bool) (parts : List (List ℕ)) → ((k : ℕ) → k < n + length parts → b k ≡ a k) → HoldRun a n begins parts → HoldRun b n begins parts
 run_same a b n begins [] same run = tt
 run_same a b n begins (bytes ∷ parts) same run = (same n (omega arith) ∙ run.0, run_same a b (n + 1) false parts (λ k below. same k (omega (arith, below))) run.1)
 
@@ -250,7 +250,7 @@ image_written base k whole parts bytes page there d c at limit reads there_is ho
     reach base k whole parts at = omega (arith, at)
 
 -- the folder's other files after a write that was done or not
-folder_stays : (k : ℕ) (page : List ℕ) (old new : State) → (new.folder ≡ old.folder) ⊎ (new.folder ≡ with_page (Log (k / 1024)) (k % 1024) page old.folder) → SameOthers old.folder new.folder
+pub folder_stays : (k : ℕ) (page : List ℕ) (old new : State) → (new.folder ≡ old.folder) ⊎ (new.folder ≡ with_page (Log (k / 1024)) (k % 1024) page old.folder) → SameOthers old.folder new.folder
 folder_stays k page old new (inl same) f other = ap (λ (g : Folder). g f) same
 folder_stays k page old new (inr put) f other = others_stay (k / 1024) _ old.folder new.folder put f other
 

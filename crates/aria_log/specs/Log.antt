@@ -176,7 +176,7 @@ pub record Adds (log : LogValue) (old new : State) (base : ℕ) (whole : List Pi
 
 -- The run was brought to the disk: each image has its pages.
 pub record Synced (old new : State) (base : ℕ) (whole : List Piece) (parts : List (List ℕ)) (there : Bool) (done : Bool) : Type 0 where
-  pub writing : IsWriting new base whole parts there
+  pub writing : IsTrue done → IsWriting new base whole parts there
   pub durable : IsTrue done → (c : Folder) → new.may_leave c → HoldRun (pieces_of (log_files c)) (base / 8176 + length whole) true parts
   pub keeps : LogMoments old new (HoldsRun base whole parts)
 
@@ -235,3 +235,16 @@ pub record Cutting (log : LogValue) (old new : State) (base : ℕ) (groups : Lis
   pub some : (c : Folder) → new.may_leave c → IsSome (log_files c file)
   pub same : (c : Folder) → new.may_leave c → (f : ℕ) → file_of base ≤ f → f < 2 ^ 24 → (file == f) ≡ false → log_files c f ≡ log_files new.folder f
   pub opened : IsTrue done → (s : State) → s.folder ≡ new.folder → AreAtRest s (file_of base) → IsOpened log s base groups file
+
+-- the log ends where it did, with the same bytes in the page that is filled
+pub record IsSameEnd (old new : LogValue) : Type 0 where
+  pub page : new.page ≡ old.page
+  pub number : new.number ≡ old.number
+  pub first : new.first ≡ old.first
+  pub used : new.used ≡ old.used
+  pub there : new.there ≡ old.there
+
+-- Pages of zeros were written behind a run, or some of them: the run is as it was.
+pub record GoesAhead (old new : State) (base : ℕ) (whole : List Piece) (parts : List (List ℕ)) : Type 0 where
+  pub writing : IsWriting new base whole parts true
+  pub keeps : LogMoments old new (HoldsRun base whole parts)

@@ -7,7 +7,7 @@ ghost use Rattle.aria_record.specs.Groups.{IsGroup};
 ghost use Rattle.aria_record.specs.Spelled.{group_bytes};
 ghost use Rattle.aria_log.specs.Pieces.{Piece};
 ghost use Rattle.aria_log.specs.Groups.{Logged, lsn_at_place};
-ghost use Rattle.aria_log.specs.Log.{place, behind, AreFull, IsLog, IsRunning, IsWriting, LogKeeps, Synced};
+ghost use Rattle.aria_log.specs.Log.{place, behind, AreFull, IsLog, IsRunning, IsSameEnd, IsWriting, LogKeeps, Synced};
 ghost use Rattle.aria_log.specs.Spelling.{IsSpelled};
 ghost use Rattle.aria_log.specs.Causes.{HasAppendCause};
 
@@ -67,6 +67,21 @@ impl Log {
         Ok(())
     }
 
+    // Makes room ahead of the log's end, and brings the files of the open run to the disk.
+    fn end_run<H: Host>(&mut self, host: &mut H) -> Result<(), Fault>
+        requires some { self.old.first < self.old.number }
+        requires room { self.old.number < 2 ^ 34 }
+        requires at { IsTrue H.tells → (base : ℕ) × (whole : List Piece) × (parts : List (List ℕ)) × IsWriting (H.state host.old) base whole parts self.old.there
+            × (self.old.number ≡ behind base whole parts) × (self.old.first ≡ base / 8176 + length whole) }
+        ensures synced { IsTrue H.tells → (base : ℕ) (whole : List Piece) (parts : List (List ℕ)) → IsWriting (H.state host.old) base whole parts self.old.there
+            → self.old.number ≡ behind base whole parts → self.old.first ≡ base / 8176 + length whole → Synced (H.state host.old) (H.state host.new) base whole parts self.old.there (is_ok result) }
+        ensures same { IsSameEnd self.old self.new }
+        ensures cause { HasDiskCause (H.state host.old) (H.state host.new) result }
+    {
+        self.make_ahead(host)?;
+        self.sync_run(host)
+    }
+
     // Writes the page that is filled and brings the run to the disk, which closes it.
     fn close_run<H: Host>(&mut self, host: &mut H) -> Result<(), Fault>
         requires used { 1 ≤ self.old.used }
@@ -79,7 +94,7 @@ impl Log {
         ensures cause { HasDiskCause (H.state host.old) (H.state host.new) result }
     {
         self.write(host)?;
-        self.sync_run(host)?;
+        self.end_run(host)?;
         self.first = self.number;
         Ok(())
     }

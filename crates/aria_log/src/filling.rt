@@ -5,11 +5,12 @@ ghost use Rattle.aria_host.specs.Calls.{HasDiskCause};
 ghost use Rattle.aria_log.specs.Pieces.{Piece};
 ghost use Rattle.aria_log.specs.Log.{place, behind, Fills, IsAt, IsWriting, Wrote, Makes, HoldsRun, IsImage, IsStrict, Adds, LogMoments};
 
+use crate::ahead::MOST_AHEAD;
 use crate::log::Log;
 use crate::log_page::{BODY_AT, BODY_BYTES, file_of, page_of, seal};
 use aria_host::{Fault, FileName, Host};
 use aria_page::Page;
-use std::cmp::min;
+use std::cmp::{max, min};
 
 impl Log {
     // Takes bytes from the front into the page, as many as there is room for, and says how many.
@@ -70,6 +71,8 @@ impl Log {
         self.used = 0;
         self.number += 1;
         self.there = page_of(self.number) != 0;
+        self.made = max(self.made, self.number);
+        self.written = min(self.written + 1, MOST_AHEAD);
         Ok(())
     }
 

@@ -16,10 +16,15 @@ pub struct Log {
     pub(crate) used: u16,
     /// The file of the page that is filled is there.
     pub(crate) there: bool,
+    /// The first page that isn't in its file yet: pages of zeros may stand behind the log's end.
+    pub(crate) made: u64,
+    /// How many pages were written since the log was started, at most `MOST_AHEAD`.
+    pub(crate) written: u64,
     /// The number of the log's last file, as it was opened.
     pub(crate) last: u32,
     ghost within: { used ≤ 8176 },
     ghost run: { first ≤ number },
+    ghost few: { written ≤ 128 },
     ghost files: { last < 2 ^ 24 },
     ghost room: { 8176 * number + used ≤ 8176 * (2 ^ 34 - 1) },
 }

@@ -24,6 +24,8 @@ impl Log {
             first: FILE_PAGES,
             used: 0,
             there: false,
+            made: FILE_PAGES,
+            written: 0,
             last: 1,
         }
     }
@@ -93,6 +95,7 @@ impl Log {
     {
         self.remove_later(host)?;
         self.there = self.end_file(host)?;
+        self.made = self.number;
         Ok(())
     }
 }

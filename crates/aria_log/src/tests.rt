@@ -15,7 +15,7 @@ fn empty_folder(alloc: Global) -> Result<MemHost, AllocError>
     ensures { IfOk result (λ host. HasNoLog (mem_state host)) }
 {
     let mut host = MemHost::new(alloc);
-    host.reserve(2000, 0)?;
+    host.reserve(4000, 0)?;
     Ok(host)
 }
 
@@ -79,6 +79,35 @@ fn a_group_is_spelled_on_its_page(rt: HostRuntime) -> Result<(), Fail> {
     ];
     assert!(rt; page.bytes().starts_with(&front));
     assert!(rt; page.bytes()[26..].iter().all(|byte| *byte == 0));
+    Ok(())
+}
+
+// Whether the page is there and holds zeros.
+fn is_blank(host: &MemHost, page: u32) -> bool
+    requires { page < 2 ^ 31 }
+{
+    match host.page(&FileName::Log(1), page) {
+        Some(page) => page.bytes().iter().all(|byte| *byte == 0),
+        None => false,
+    }
+}
+
+// Where the page that a force writes is its file's last, as many pages of zeros follow as were written so far.
+#[test]
+fn a_force_makes_room_ahead(rt: HostRuntime) -> Result<(), Fail> {
+    let alloc = rt.alloc();
+    let mut host = empty_folder(alloc)?;
+    let mut log = begin(&mut host)?;
+    assert!(rt; host.page(&FileName::Log(1), 0).is_none());
+    commit_all(alloc, &mut log, &mut host, 1)?;
+    assert!(rt; !is_blank(&host, 0) && is_blank(&host, 1));
+    assert!(rt; host.page(&FileName::Log(1), 2).is_none());
+    commit_all(alloc, &mut log, &mut host, 1)?;
+    assert!(rt; !is_blank(&host, 1) && is_blank(&host, 2) && is_blank(&host, 3));
+    assert!(rt; host.page(&FileName::Log(1), 4).is_none());
+    force_all(alloc, &mut log, &mut host, 2)?;
+    assert!(rt; !is_blank(&host, 3) && is_blank(&host, 7));
+    assert!(rt; host.page(&FileName::Log(1), 8).is_none());
     Ok(())
 }
 
