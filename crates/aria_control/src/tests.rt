@@ -85,6 +85,21 @@ fn found_empty(alloc: Global, other: Option<FileName>) -> Result<Found, Fault>
     read(alloc, &mut host)
 }
 
+// What is found where the control file is a page of zeros, beside another file or none.
+fn found_blank(alloc: Global, other: Option<FileName>) -> Result<Found, Fault>
+    requires { IfSome other IsFileName }
+{
+    let zeros = Page::zero();
+    found(alloc, Some(&zeros), None, other)
+}
+
+// What is found where the control file is two pages of zeros.
+fn found_two_blank(alloc: Global) -> Result<Found, Fault> {
+    let zeros = Page::zero();
+    let more = Page::zero();
+    found(alloc, Some(&zeros), Some(&more), None)
+}
+
 fn is_fresh(read: &Result<Found, Fault>) -> bool {
     matches!(read, Ok(Found::Fresh))
 }
@@ -117,14 +132,13 @@ fn is_not_ours(read: &Result<Found, Fault>) -> bool {
 #[test]
 fn a_blank_control_file_is_fresh_or_missing(rt: HostRuntime) {
     let alloc = rt.alloc();
-    let zeros = Page::zero();
     assert!(rt; is_fresh(&found(alloc, None, None, None)));
     assert!(rt; is_missing(&found(alloc, None, None, Some(LOG))));
     assert!(rt; is_fresh(&found_empty(alloc, None)));
     assert!(rt; is_missing(&found_empty(alloc, Some(LOG))));
-    assert!(rt; is_fresh(&found(alloc, Some(&zeros), None, None)));
-    assert!(rt; is_missing(&found(alloc, Some(&zeros), None, Some(LOG))));
-    assert!(rt; is_not_ours(&found(alloc, Some(&zeros), Some(&zeros), None)));
+    assert!(rt; is_fresh(&found_blank(alloc, None)));
+    assert!(rt; is_missing(&found_blank(alloc, Some(LOG))));
+    assert!(rt; is_not_ours(&found_two_blank(alloc)));
 }
 
 #[test]
