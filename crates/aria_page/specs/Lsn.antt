@@ -1,5 +1,6 @@
 -- Log sequence numbers: how they are stored, and their order.
-use Rattle.std.specs.Prelude.{◌≡◌, ℕ, ◌<◌, ◌^◌, ◌⊎◌, List, ◌++◌, drop, Option, Some}
+use Rattle.std.specs.Prelude.{◌≡◌, ℕ, ◌<◌, ◌^◌, ◌⊎◌, false, List, ◌++◌, drop, Option, Some, codes, decimal}
+use Rattle.std.specs.Fmt.{digits}
 use Rattle.aria_page.specs.declared.lsn.Lsn.{Lsn}
 use Rattle.aria_page.specs.Field.{◌>>=◌}
 use Rattle.aria_page.specs.Number.{number, number_of, number_at}
@@ -27,3 +28,7 @@ lsn_at bytes = do
 -- a stands before b in the log: in an earlier file, or in the same file at an earlier byte
 abbrev pub IsBefore : Lsn → Lsn → Type 0
 IsBefore a b = (a.file < b.file) ⊎ ((a.file ≡ b.file) × (a.offset < b.offset))
+
+-- how it is printed: the file's number in decimal, and the offset in hexadecimal digits of lower case
+abbrev pub lsn_text : Lsn → List ℕ
+lsn_text l = codes "(" ++ (decimal l.file ++ (codes ",0x" ++ (digits 16 false l.offset ++ codes ")")))

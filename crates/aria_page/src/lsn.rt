@@ -1,11 +1,12 @@
-ghost use Rattle.std.specs.Prelude.{◌≡◌, ◌≤◌, ◌↔◌, ◌++◌, length, IsTrue, OnOk};
+ghost use Rattle.std.specs.Prelude.{◌≡◌, ◌≤◌, ◌↔◌, ◌++◌, Some, length, IsTrue, OnOk};
 ghost use Rattle.aria_page.specs.declared.lsn.TheConstants.{LSN_BYTES};
 ghost use Rattle.aria_page.specs.Field.{Gives};
-ghost use Rattle.aria_page.specs.Lsn.{IsLsn, lsn_bytes, lsn_of, lsn_at, IsBefore};
+ghost use Rattle.aria_page.specs.Lsn.{IsLsn, lsn_bytes, lsn_of, lsn_at, lsn_text, IsBefore};
 
 use crate::list::Bytes;
 use crate::number::{u24_at, u24_bytes, u24_of, u32_at, u32_bytes, u32_of};
 use std::alloc::AllocError;
+use std::fmt;
 
 /// The number of bytes that a log sequence number is stored in.
 pub const LSN_BYTES: usize = 7;
@@ -35,6 +36,15 @@ impl Lsn {
         let [a, b, c] = u24_bytes(self.file);
         let [d, e, f, g] = u32_bytes(self.offset);
         [a, b, c, d, e, f, g]
+    }
+}
+
+/// As `(1,0x10)`: the file's number, and the offset in hexadecimal digits.
+impl fmt::Display for Lsn {
+    ghost output = { λ lsn. Some (lsn_text lsn) };
+
+    fn fmt<W: fmt::Write>(&self, f: &mut fmt::Formatter<W>) -> fmt::Result {
+        write!(f, "({},0x{:x})", self.file, self.offset)
     }
 }
 

@@ -1,4 +1,5 @@
 use super::*;
+use std::alloc::AllocError;
 use std::test::*;
 
 #[test]
@@ -21,6 +22,23 @@ fn an_lsn_is_stored_in_seven_bytes(rt: HostRuntime) {
     assert_eq!(rt; lsn_of(&lsn.to_bytes()), lsn);
     assert!(rt; lsn_at(&[0, 0, 1, 0, 0, 0]).is_none());
     assert!(rt; lsn.is_before(Lsn { file: 2, offset: 0 }));
+}
+
+#[test]
+fn an_lsn_is_printed_with_its_offset_in_hexadecimal(rt: HostRuntime) -> Result<(), AllocError> {
+    let first = Lsn {
+        file: 1,
+        offset: 0x10,
+    };
+    let last = Lsn {
+        file: 16_777_215,
+        offset: 0xFFAB_CDEF,
+    };
+    assert_eq!(rt;
+        format!(in rt.alloc(); "{first} {last}")?.as_bytes(),
+        "(1,0x10) (16777215,0xffabcdef)".as_bytes()
+    );
+    Ok(())
 }
 
 #[test]
