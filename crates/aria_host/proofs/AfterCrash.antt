@@ -5,10 +5,10 @@ use Rattle.std.specs.Option.{option_map}
 use Rattle.std.proofs.lemmas.Bool.{cases_Bool, false_from_ne_true}
 use Rattle.std.proofs.lemmas.Bool.Decides.{when_true}
 use Rattle.std.proofs.lemmas.List.{reverse-append, append-nil, drop_more, drop_all}
-use Rattle.aria_host.specs.declared.effect.Effect.{Effect}
-use Rattle.aria_host.specs.declared.effect.Effect.TheVariants.{Wrote, Cut, Created, Removed, Synced, Set, Told}
-use Rattle.aria_host.specs.declared.fate.Fate.{Fate}
-use Rattle.aria_host.specs.declared.fate.Fate.TheVariants.{Kept, Lost, Torn}
+use Rattle.aria_host.specs.declared.memory.effect.Effect.{Effect}
+use Rattle.aria_host.specs.declared.memory.effect.Effect.TheVariants.{Wrote, Cut, Created, Removed, Synced, Set, Told}
+use Rattle.aria_host.specs.declared.memory.fate.Fate.{Fate}
+use Rattle.aria_host.specs.declared.memory.fate.Fate.TheVariants.{Kept, Lost, Torn}
 use Rattle.aria_host.specs.declared.file_name.FileName.{FileName}
 use Rattle.aria_host.specs.Crash.{is_synced, next_fate, LeavesOfWrite, LeavesOfCut, Survive}
 use Rattle.aria_host.specs.Effect.{after, reads, MayLeave, with_set}

@@ -2,7 +2,7 @@
 use Rattle.std.proofs.Common.{◌≡◌, ℕ, ◌+◌, ◌-◌, ◌^◌, ◌≤◌, min, Err, inl, sym, ◌∙◌, ap, arith}
 use Rattle.aria_host.specs.declared.fault.Fault.{Fault}
 use Rattle.aria_host.specs.declared.fault.Fault.TheVariants.{Disk}
-use Rattle.aria_host.specs.declared.mem_host.MemHost.{MemHost}
+use Rattle.aria_host.specs.declared.memory.mem_host.MemHost.{MemHost}
 use Rattle.aria_host.specs.Calls.{HasDiskCause, HasDiskOrMemoryCause}
 use Rattle.aria_host.specs.MemHost.{mem_state, SameFaults}
 

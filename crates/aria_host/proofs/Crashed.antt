@@ -1,9 +1,9 @@
 -- That a crash of the host in memory is what its contract says.
 use Rattle.std.proofs.Common.{◌≡◌, List, [], ◌++◌, reverse, None, sym, ◌∙◌, ap, subst}
 use Rattle.std.proofs.lemmas.List.{reverse-append}
-use Rattle.aria_host.specs.declared.effect.Effect.{Effect}
-use Rattle.aria_host.specs.declared.fate.Fate.{Fate}
-use Rattle.aria_host.specs.declared.mem_host.MemHost.{MemHost}
+use Rattle.aria_host.specs.declared.memory.effect.Effect.{Effect}
+use Rattle.aria_host.specs.declared.memory.fate.Fate.{Fate}
+use Rattle.aria_host.specs.declared.memory.mem_host.MemHost.{MemHost}
 use Rattle.aria_host.specs.Crash.{Survive}
 use Rattle.aria_host.specs.Effect.{no_files, reads, MayLeave}
 use Rattle.aria_host.specs.Folder.{Folder}

@@ -4,7 +4,7 @@ mod Causes
 mod Crashed
 pub mod Files
 mod Front
-mod Memory
+mod MemCalls
 mod NameLists
 mod Named
 mod OnePass

@@ -6,8 +6,8 @@ use Rattle.std.proofs.lemmas.Bool.{cases_Bool, false_from_ne_true}
 use Rattle.std.proofs.lemmas.Bool.Decides.{nat_tests}
 use Rattle.std.proofs.lemmas.List.Elements.{All-push, All-filter}
 use Rattle.std.proofs.lemmas.List.Sums.{sum_by-append}
-use Rattle.aria_host.specs.declared.effect.Effect.{Effect}
-use Rattle.aria_host.specs.declared.effect.Effect.TheVariants.{Wrote, Cut, Created, Removed, Synced, Set, Told}
+use Rattle.aria_host.specs.declared.memory.effect.Effect.{Effect}
+use Rattle.aria_host.specs.declared.memory.effect.Effect.TheVariants.{Wrote, Cut, Created, Removed, Synced, Set, Told}
 use Rattle.aria_host.specs.declared.file_name.FileName.{FileName}
 use Rattle.aria_host.specs.declared.file_name.FileName.TheVariants.{Control, Log, Keys, Rows, NewKeys, NewRows}
 use Rattle.aria_host.specs.Folder.{Folder, IsFileName, is_form, same_file, put_page, with_file}

@@ -3,7 +3,7 @@ use Rattle.std.proofs.Common.{◌≡◌, inl, inr, ℕ, ◌+◌, ◌<◌, Bool, 
 use Rattle.std.proofs.lemmas.Bool.{cases_order}
 use Rattle.std.proofs.lemmas.List.{get_or-set_same, get_or-set_other, get_or_default}
 use Rattle.aria_host.specs.declared.file_name.FileName.{FileName}
-use Rattle.aria_host.specs.declared.os.Handle.{Handle}
+use Rattle.aria_host.specs.declared.real.os.Handle.{Handle}
 use Rattle.aria_host.specs.OpenTable.{is_of, IsPlace, IsNotBelow}
 
 -- what was read at a place is what stands there

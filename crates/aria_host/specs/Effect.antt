@@ -1,8 +1,8 @@
 -- A record of changes, newest first, and what it stands for.
 use Rattle.std.specs.Prelude.{◌≡◌, ◌⊎◌, ℕ, ◌-◌, ◌≤◌, true, None, Some, List, [], ◌∷◌, ◌++◌, length, take, drop, unwrap_or, refl}
 use Rattle.std.proofs.Common.{inl, inr, arith}
-use Rattle.aria_host.specs.declared.effect.Effect.{Effect}
-use Rattle.aria_host.specs.declared.effect.Effect.TheVariants.{Wrote, Cut, Created, Removed, Synced, Set, Told}
+use Rattle.aria_host.specs.declared.memory.effect.Effect.{Effect}
+use Rattle.aria_host.specs.declared.memory.effect.Effect.TheVariants.{Wrote, Cut, Created, Removed, Synced, Set, Told}
 use Rattle.aria_host.specs.declared.file_name.FileName.{FileName}
 use Rattle.aria_host.specs.declared.host.Stream.TheVariants.{Out}
 use Rattle.aria_host.specs.Folder.{Folder, put_page, with_file, with_page, with_cut}

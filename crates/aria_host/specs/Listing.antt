@@ -1,8 +1,8 @@
 -- How the names of the files that are there follow the changes of a record.
 use Rattle.std.specs.Prelude.{◌&&◌, if◌then◌else◌, List, [], ◌∷◌, ◌++◌, All, filter, not}
 use Rattle.std.specs.List.{list_any}
-use Rattle.aria_host.specs.declared.effect.Effect.{Effect}
-use Rattle.aria_host.specs.declared.effect.Effect.TheVariants.{Wrote, Cut, Created, Removed, Synced, Set, Told}
+use Rattle.aria_host.specs.declared.memory.effect.Effect.{Effect}
+use Rattle.aria_host.specs.declared.memory.effect.Effect.TheVariants.{Wrote, Cut, Created, Removed, Synced, Set, Told}
 use Rattle.aria_host.specs.declared.file_name.FileName.{FileName}
 use Rattle.aria_host.specs.Calls.{Lists}
 use Rattle.aria_host.specs.Folder.{Folder, IsFileName, is_form, same_file}

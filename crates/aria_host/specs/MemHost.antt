@@ -5,10 +5,10 @@ use Rattle.std.specs.Option.{option_map_or}
 use Rattle.std.proofs.Common.{inl, inr, arith}
 use Rattle.aria_host.specs.declared.host.Stream.{Stream}
 use Rattle.aria_host.specs.declared.host.Stream.TheVariants.{Out, Err}
-use Rattle.aria_host.specs.declared.effect.Effect.{Effect}
-use Rattle.aria_host.specs.declared.effect.Effect.TheVariants.{Told}
-use Rattle.aria_host.specs.declared.fate.Fate.{Fate}
-use Rattle.aria_host.specs.declared.mem_host.MemHost.{MemHost}
+use Rattle.aria_host.specs.declared.memory.effect.Effect.{Effect}
+use Rattle.aria_host.specs.declared.memory.effect.Effect.TheVariants.{Told}
+use Rattle.aria_host.specs.declared.memory.fate.Fate.{Fate}
+use Rattle.aria_host.specs.declared.memory.mem_host.MemHost.{MemHost}
 use Rattle.aria_host.specs.Calls.{told_on}
 use Rattle.aria_host.specs.Crash.{Survive}
 use Rattle.aria_host.specs.Effect.{no_files, reads, MayLeave, Since, reads_is_left, no_earlier}

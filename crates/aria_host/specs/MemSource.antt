@@ -1,7 +1,7 @@
 -- Input in memory.
 use Rattle.std.specs.Prelude.{◌≡◌, ◌==◌, ℕ, Bool, List, [], drop}
 use Rattle.std.specs.List.{list_any}
-use Rattle.aria_host.specs.declared.mem_source.MemSource.{MemSource}
+use Rattle.aria_host.specs.declared.memory.mem_source.MemSource.{MemSource}
 
 -- the bytes that are left
 abbrev pub left_of : MemSource → List ℕ

@@ -1,7 +1,7 @@
 -- The table of the files that stay open.
 use Rattle.std.specs.Prelude.{◌≡◌, ℕ, ◌<◌, Bool, true, false, Option, Some, None, List, slice_index_or}
 use Rattle.aria_host.specs.declared.file_name.FileName.{FileName}
-use Rattle.aria_host.specs.declared.os.Handle.{Handle}
+use Rattle.aria_host.specs.declared.real.os.Handle.{Handle}
 use Rattle.aria_host.specs.Folder.{same_file}
 
 -- the file of that name is open there

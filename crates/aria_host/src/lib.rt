@@ -10,34 +10,19 @@
 //! `crash` leaves the image that the given fates pick.
 #![tactic(auto)]
 
-mod crash;
-mod dir_host;
-mod effect;
-mod fate;
 mod fault;
 mod file_name;
 mod host;
-mod listing;
-mod mem_host;
-mod mem_source;
-mod open_files;
-mod open_table;
-mod os;
-mod seen;
+mod memory;
+mod real;
 mod source;
-mod std_source;
-mod system;
-mod zero_page;
 
-pub use dir_host::DirHost;
-pub use fate::Fate;
 pub use fault::Fault;
 pub use file_name::FileName;
 pub use host::{Extent, Host, Stream};
-pub use mem_host::MemHost;
-pub use mem_source::MemSource;
+pub use memory::{Fate, MemHost, MemSource};
+pub use real::{DirHost, StdSource};
 pub use source::Source;
-pub use std_source::StdSource;
 
 #[cfg(test)]
 mod tests;

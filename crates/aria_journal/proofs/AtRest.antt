@@ -1,8 +1,8 @@
 -- Hosts in memory of which a crash leaves what they read.
 use Rattle.std.proofs.Common.{◌≡◌, List, [], ap, subst, sym, ◌∙◌}
 use Rattle.std.specs.Prelude.{reverse}
-use Rattle.aria_host.specs.declared.effect.Effect.{Effect}
-use Rattle.aria_host.specs.declared.mem_host.MemHost.{MemHost}
+use Rattle.aria_host.specs.declared.memory.effect.Effect.{Effect}
+use Rattle.aria_host.specs.declared.memory.mem_host.MemHost.{MemHost}
 use Rattle.aria_host.specs.Folder.{Folder}
 use Rattle.aria_host.specs.State.{State}
 use Rattle.aria_host.specs.Calls.{Unchanged}

@@ -1,8 +1,8 @@
 -- What the tests begin with.
 use Rattle.std.proofs.Common.{◌≡◌, ◌<◌, ◌^◌, ℕ, List, [], ◌∷◌, None, ap, subst, sym, refl, arith}
 use Rattle.std.specs.Prelude.{reverse}
-use Rattle.aria_host.specs.declared.effect.Effect.{Effect}
-use Rattle.aria_host.specs.declared.mem_host.MemHost.{MemHost}
+use Rattle.aria_host.specs.declared.memory.effect.Effect.{Effect}
+use Rattle.aria_host.specs.declared.memory.mem_host.MemHost.{MemHost}
 use Rattle.aria_host.specs.declared.file_name.FileName.TheVariants.{Log}
 use Rattle.aria_host.specs.Folder.{Folder}
 use Rattle.aria_host.specs.Effect.{no_files, MayLeave, reads}

@@ -1,5 +1,0 @@
-use Rattle.aria_host.proofs.Memory.{tells_done}
-use Rattle.aria_host.proofs.mem_host.MemHostHost.tell.Goals as goal
-
-pub returns-clause-told : goal.returns-clause-told
-returns-clause-told c = tells_done c.args.stream c.args.bytes.now c.args.self.now c.tells.new.self c.if-not-tells.ensures.done

@@ -1,5 +1,0 @@
-use Rattle.aria_host.specs.OpenTable.{IsNotBelow}
-use Rattle.aria_host.proofs.open_table.OpenTable.place.Given as goal
-
-abbrev pub invariant-loop-place : goal.invariant-loop-place
-invariant-loop-place l = IsNotBelow l.name l.place l.self.handles
