@@ -1,5 +1,7 @@
 -- Numbers of pages and of files.
 use Rattle.std.proofs.Common.{◌≡◌, ◌==◌, ◌⊎◌, ℕ, ◌+◌, ◌/◌, ◌%◌, ◌<◌, ◌≤◌, Bool, true, false, not, refl, arith}
+use Rattle.std.specs.Prelude.{min}
+use Rattle.std.specs.Ordering.{nat_cmp, ord_min}
 use Rattle.std.proofs.lemmas.Bool.{eqb-true}
 
 pub differ_above : (k n : ℕ) → k < n → (k == n) ≡ false
@@ -35,3 +37,7 @@ not_false false e = absurd (cc)
 
 pub lower_unless_same : (n m : ℕ) → n ≤ m → (n == m) ≡ false → n < m
 lower_unless_same n m le apart = grind arith
+
+-- the lesser of two numbers
+pub least : (a b : ℕ) → ord_min nat_cmp a b ≡ min a b
+least a b = grind arith

@@ -169,24 +169,6 @@ cut_synced log old mid new done base groups file only cutting syncs = (
       (λ c leaves. (cutting.now c (syncs.no_more c leaves), c, syncs.no_more c leaves, λ g other. refl))),
 )
 
--- what lies behind the log's end in the file that was cut
-pub cut_ends : (files : LogFiles) (end : ℕ) (pages : List (List ℕ)) → files (end / 1024) ≡ Some (take (end % 1024) pages) → EndsAt true files end
-cut_ends files end pages is = record {
-  now = there_is (is);
-  none = λ k from same. past_reads files k (take (end % 1024) pages) (ap files same ∙ is) (omega (arith, length-take (end % 1024) pages, from, same));
-}
-
--- the file was short enough
-pub short_ends : (files : LogFiles) (end : ℕ) (pages : List (List ℕ)) → files (end / 1024) ≡ Some pages → length pages ≤ end % 1024 → EndsAt true files end
-short_ends files end pages is few = record {
-  now = there_is (is);
-  none = λ k from same. past_reads files k pages (ap files same ∙ is) (omega (arith, few, from, same));
-}
-
--- the file isn't there
-pub no_file_ends : (files : LogFiles) (end : ℕ) → files (end / 1024) ≡ None → EndsAt false files end
-no_file_ends files end is = record { now = is; none = λ k from same. none_reads files k (ap files same ∙ is) }
-
 -- a look changes nothing of an opened log
 pub look_opened : (log : LogValue) (old new : State) (base : ℕ) (groups : List Logged) (last : ℕ) → Unchanged old new → IsOpened log old base groups last → IsOpened log new base groups last
 look_opened log old new base groups last same is =
@@ -212,7 +194,7 @@ last_piece pieces n may p (q ∷ ps) stand =
     (last, ap pieces (let e : n + suc (length ps) ≡ n + 1 + length ps = omega arith in e) ∙ is)
 
 -- a file is there whose page holds something
-piece_there : (files : LogFiles) (n : ℕ) (p : Piece) → pieces_of files n ≡ Some p → IsSome (files (n / 1024))
+pub piece_there : (files : LogFiles) (n : ℕ) (p : Piece) → pieces_of files n ≡ Some p → IsSome (files (n / 1024))
 piece_there files n p is = by_file (files (n / 1024)) refl
   where
     by_file : (o : Option (List (List ℕ))) → files (n / 1024) ≡ o → IsSome (files (n / 1024))
@@ -391,11 +373,15 @@ opened_lower log s base groups last is upto =
 
 -- nothing is done yet
 pub starts_none : (log : LogValue) (s : State) (base : ℕ) (groups : List Logged) (last : ℕ) → OnlyNow s → IsOpened log s base groups last → Starts log s s base groups last true
-starts_none log s base groups last only is = record { opened = λ done. is; keeps = nothing_moves s (HoldsAll base groups) only (rest_holds log s base groups last is) }
+starts_none log s base groups last only is = record { opened = λ done. is; same = λ done f upto. refl; keeps = nothing_moves s (HoldsAll base groups) only (rest_holds log s base groups last is) }
 
 -- a step more
 pub starts_more : (log : LogValue) (a b c : State) (base : ℕ) (groups : List Logged) (last next : ℕ) (done : Bool) → Starts log a b base groups last true → Starts log b c base groups next done → Starts log a c base groups next done
-starts_more log a b c base groups last next done first second = record { opened = second.opened; keeps = one_after a b c (HoldsAll base groups) first.keeps second.keeps }
+starts_more log a b c base groups last next done first second = record {
+  opened = second.opened;
+  same = λ finished f upto. second.same finished f upto ∙ first.same refl f upto;
+  keeps = one_after a b c (HoldsAll base groups) first.keeps second.keeps;
+}
 
 -- the last file is there
 pub last_there : (log : LogValue) (s : State) (base : ℕ) (groups : List Logged) (last : ℕ) → IsOpened log s base groups last → log.number / 1024 < last → IsSome (s.folder (Log last))
@@ -411,25 +397,20 @@ removed log old new done base groups (suc f) only is over low removes =
     subst (λ (k : ℕ). Starts log old new base groups k done) (let e : f ≡ suc f - 1 = omega arith in e)
     (remove_step log old new done base groups f only is' (omega (arith, over, is'.fills.number_is)) (omega (arith, low)) (subst (λ (k : ℕ). Removes (Log k) old new done) next removes))
 
--- the file that was cut
-cut_folder : (end : ℕ) (pages : List (List ℕ)) (d c : Folder) → c ≡ with_cut (Log (end / 1024)) (end % 1024) d → d (Log (end / 1024)) ≡ Some pages → c (Log (end / 1024)) ≡ Some (take (end % 1024) pages)
-cut_folder end pages d c is was =
-    ap (λ (x : Folder). x (Log (end / 1024))) is ∙ with_file-same (Log (end / 1024)) (option_map (take (end % 1024)) (d (Log (end / 1024)))) d ∙ ap (option_map (take (end % 1024))) was
-
 -- the file was cut and brought to the disk
 pub cut_all : (log : LogValue) (old mid new : State) (done : Bool) (base : ℕ) (groups : List Logged) (file page : ℕ) (pages : List (List ℕ)) → OnlyNow old → OnlyNow mid → IsOpened log old base groups (log.number / 1024)
     → file ≡ log.number / 1024 → page ≡ log.number % 1024 → old.folder (Log (log.number / 1024)) ≡ Some pages → Cuts (Log file) page old mid true → Syncs (Log file) mid new done
-    → (IsTrue done → IsOpened log new base groups (log.number / 1024) × EndsAt true (log_files new.folder) log.number) × LogMoments old new (HoldsAll base groups)
+    → (IsTrue done → IsOpened log new base groups (log.number / 1024)) × LogMoments old new (HoldsAll base groups)
 cut_all log old mid new done base groups file page pages only only' is file_is page_is there cuts syncs =
     let cuts' : Cuts (Log (log.number / 1024)) (log.number % 1024) old mid true = subst (λ (k : ℕ). Cuts (Log (log.number / 1024)) k old mid true) page_is (subst (λ (f : ℕ). Cuts (Log f) page old mid true) file_is cuts) in
     let syncs' : Syncs (Log (log.number / 1024)) mid new done = subst (λ (f : ℕ). Syncs (Log f) mid new done) file_is syncs in
-    let synced = cut_synced log old mid new done base groups (log.number / 1024) only' (cut_step log old mid true base groups log.number pages only is refl there cuts') syncs' in (
-      λ finished. (
-        synced.0 finished,
-        cut_ends (log_files new.folder) log.number pages (ap (λ (x : Folder). x (Log (log.number / 1024))) syncs'.folder ∙ cut_folder log.number pages old.folder mid.folder (cuts'.whole refl) there),
-      ),
-      synced.1,
-    )
+    cut_synced log old mid new done base groups (log.number / 1024) only' (cut_step log old mid true base groups log.number pages only is refl there cuts') syncs'
+
+-- the file is cut
+pub cut_file : (file page f at : ℕ) (old mid new : State) (done : Bool) → file ≡ f → page ≡ at → Cuts (Log file) page old mid true → Syncs (Log file) mid new done → log_files new.folder f ≡ option_map (take at) (log_files old.folder f)
+cut_file file page f at old mid new done file_is page_is cuts syncs =
+    ap (λ (x : Folder). x (Log f)) syncs.folder ∙ ap (λ (x : Folder). x (Log f)) (cuts.whole refl) ∙ ap (λ (k : ℕ). with_cut (Log k) page old.folder (Log f)) file_is
+    ∙ with_file-same (Log f) (option_map (take page) (old.folder (Log f))) old.folder ∙ ap (λ (k : ℕ). option_map (take k) (old.folder (Log f))) page_is
 
 -- the cut failed
 pub cut_failed : (log : LogValue) (old new : State) (done : Bool) (base : ℕ) (groups : List Logged) (file page : ℕ) (pages : List (List ℕ)) → OnlyNow old → IsOpened log old base groups (log.number / 1024)

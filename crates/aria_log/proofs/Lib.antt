@@ -10,7 +10,9 @@ pub mod Appending
 pub mod Images
 pub mod Logs
 pub mod Syncing
+pub mod Looking
 pub mod Starting
 pub mod Cutting
+pub mod Blank
 pub mod Testing
 pub mod Zeros

@@ -232,6 +232,7 @@ remove_step log old new done base groups f only is above low removes =
             | inl same ↦ ap (λ (k : ℕ). new.folder (Log k)) (sym (eqb-true (f + 1) g same)) ∙ ap (λ (x : Folder). x (Log (f + 1))) made ∙ with_file-same (Log (f + 1)) None old.folder
             | inr apart ↦ gone old.folder new.folder g made apart ∙ is.none g over (later f g past apart) low'
           ]);
+      same = λ finished g upto. ap (λ (x : Folder). x (Log g)) (removes.whole finished) ∙ with_file-other (Log (f + 1)) (Log g) None old.folder (differ_below (f + 1) g (omega (arith, upto, above, is.fills.number_is)));
       keeps = one_call old new (HoldsAll base groups) only removes.tells (removed_stays removes.either) (rest_holds log old base groups (f + 1) is) after;
     }
   where

@@ -1,10 +1,12 @@
 -- The log as a value, and what its calls do to the folder.
-use Rattle.std.specs.Prelude.{◌≡◌, ◌⊎◌, ◌==◌, ⊤, ℕ, ◌+◌, ◌*◌, ◌/◌, ◌%◌, ◌^◌, ◌<◌, ◌≤◌, Bool, true, false, IsTrue, None, Some, IsSome, List, [], ◌∷◌, ◌++◌, length, drop, All}
+use Rattle.std.specs.Prelude.{◌≡◌, ◌⊎◌, ◌==◌, ⊤, ℕ, ◌+◌, ◌*◌, ◌/◌, ◌%◌, ◌^◌, ◌<◌, ◌≤◌, max, Bool, true, false, IsTrue, Option, None, Some, IsSome, is_some, List, [], ◌∷◌, ◌++◌, length, take, drop, All}
 use Rattle.std.specs.List.{flat_map}
-use Rattle.std.specs.Option.{option_map_or}
+use Rattle.std.specs.Option.{option_map, option_map_or}
+use Rattle.aria_page.specs.Page.{zero_page}
 use Rattle.aria_host.specs.declared.file_name.FileName.{FileName}
 use Rattle.aria_host.specs.Folder.{Folder, is_log}
 use Rattle.aria_host.specs.State.{State, LeavesOnly}
+use Rattle.aria_host.specs.Seen.{page_or_zero}
 use Rattle.aria_record.specs.declared.record.Record.{Record}
 use Rattle.aria_record.specs.Groups.{IsGroup}
 use Rattle.aria_log.specs.declared.log.Log.{Log as LogValue}
@@ -213,15 +215,38 @@ pub record HoldsAll (base : ℕ) (groups : List Logged) (files : LogFiles) : Typ
   pub holds : HoldsLog files base groups end
   pub sound : IsSoundLog files base end
 
--- A call of starting: the log stays opened, with this last file, and each image has its groups at each moment.
+-- A call of starting: the log stays opened, with this last file, the files up to that of its end stay as they were, and
+-- each image has its groups at each moment.
 pub record Starts (log : LogValue) (old new : State) (base : ℕ) (groups : List Logged) (last : ℕ) (done : Bool) : Type 0 where
   pub opened : IsTrue done → IsOpened log new base groups last
+  pub same : IsTrue done → (f : ℕ) → f ≤ log.number / 1024 → log_files new.folder f ≡ log_files old.folder f
   pub keeps : LogMoments old new (HoldsAll base groups)
 
 -- the file of page n is there or it isn't, and no page of it from there on holds anything
 pub record EndsAt (there : Bool) (files : LogFiles) (n : ℕ) : Type 0 where
   pub now : IsThere there files n
   pub none : (k : ℕ) → n ≤ k → k / 1024 ≡ n / 1024 → pieces_of files k ≡ None
+
+-- only zeros stand in the file from this page on
+abbrev pub IsBlankFrom : ℕ → Option (List (List ℕ)) → Type 0
+IsBlankFrom at content = (page : ℕ) → at ≤ page → page_or_zero page content ≡ zero_page
+
+-- The file stays as it was where only zeros stand from this page on, and else it is cut there.
+pub record EndsFile (at : ℕ) (old new : Option (List (List ℕ))) : Type 0 where
+  pub blank : IsBlankFrom at old → new ≡ old
+  pub cut : (¬ IsBlankFrom at old) → new ≡ option_map (take at) old
+
+-- The log's last file was ended where the log ends: the log stays opened, and the file has so many pages, or isn't there.
+pub record IsEnded (log : LogValue) (old new : State) (base : ℕ) (groups : List Logged) (pages : Option ℕ) : Type 0 where
+  pub opened : IsOpened log new base groups (log.number / 1024)
+  pub ends : EndsAt (is_some pages) (log_files new.folder) log.number
+  pub file : EndsFile (log.number % 1024) (log_files old.folder (log.number / 1024)) (log_files new.folder (log.number / 1024))
+  pub size : pages ≡ option_map length (log_files new.folder (log.number / 1024))
+
+-- A log was started: zeros behind its end in its last file stay, as room for pages to come; and it knows how far they go.
+pub record KeepsRoom (log log' : LogValue) (old new : LogFiles) : Type 0 where
+  pub file : EndsFile (log.number % 1024) (old (log.number / 1024)) (new (log.number / 1024))
+  pub made : log'.made ≡ max log.number (1024 * (log.number / 1024) + option_map_or length (new (log.number / 1024)) 0)
 
 -- the folder and each image have no file of the log
 pub record HasNoLog (s : State) : Type 0 where

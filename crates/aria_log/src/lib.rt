@@ -15,7 +15,7 @@
 //! ```
 //!
 //! `force` also makes room ahead: pages of zeros behind the log's end, so that the file needn't grow at each force. Zeros
-//! are no valid page, so they are no part of the log.
+//! are no valid page, so they are no part of the log, and `start` leaves them.
 //!
 //! `start` asks for a log that was opened on this very host; `append` and `force` ask for one that was started. After a
 //! call has answered a fault but `LogSpent` the log isn't used again. Neither `append` nor `force` takes memory.

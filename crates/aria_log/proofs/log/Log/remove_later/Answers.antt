@@ -26,7 +26,7 @@ returns-in_err-remove-clause-starts g c = λ told base groups is.
     let last = starts_more c.args.self.now (g.H.Host.state c.args.host.now) (g.H.Host.state c.loop-file.host) (g.H.Host.state c.remove.new.self) base groups c.loop-file.file _ _ so_far
     (removed c.args.self.now (g.H.Host.state c.loop-file.host) (g.H.Host.state c.remove.new.self) _ base groups c.loop-file.file (λ f b left. g.met.H.Host.only_now c.loop-file.host f b told left) (so_far.opened refl)
     (omega (arith, c.loop-file-test.true, c.file_of-end.ensures.is)) c.loop-file.invariant.low (c.in_err-remove.ensures.removed told)) in
-    record { opened = λ finished. absurd (not_done _ (ap is_ok p.1) finished); keeps = last.keeps }
+    record { opened = λ finished. absurd (not_done _ (ap is_ok p.1) finished); same = λ finished. absurd (not_done _ (ap is_ok p.1) finished); keeps = last.keeps }
 
 pub loop-file-preserved : goal.loop-file-preserved
 loop-file-preserved g c = record {
@@ -46,5 +46,6 @@ returns-clause-starts g c = λ told base groups is.
     let so_far = c.loop-file.invariant.starts told base groups is in
     record {
       opened = λ finished. opened_lower c.args.self.now (g.H.Host.state c.loop-file.host) base groups c.loop-file.file (so_far.opened refl) (omega (arith, c.loop-file-test.false, c.file_of-end.ensures.is));
+      same = λ finished f upto. so_far.same refl f upto;
       keeps = so_far.keeps;
     }
