@@ -58,21 +58,21 @@ pub record HoldsFront (place : ℕ) (groups : List (List Record)) (front : List 
   pub enough : length (groups_bytes (take count groups)) ≤ length front
 
 -- with no group in front none is found
-none_within : (n place : ℕ) (bytes : List ℕ) → read_group bytes ≡ None → groups_within n place bytes ≡ []
+pub none_within : (n place : ℕ) (bytes : List ℕ) → read_group bytes ≡ None → groups_within n place bytes ≡ []
 unfolding groups_within
 none_within zero place bytes none = refl
 none_within (suc n) place bytes none =
     ap (λ (o : Option (List Record × List ℕ)). option_map_or (λ found. record { at = place; group = found.0 } ∷ groups_within n (place + (length bytes - length found.1)) found.1) o []) none
 
 -- a group in front is found first
-some_within : (n place : ℕ) (bytes rest : List ℕ) (group : List Record) → read_group bytes ≡ Some (group, rest)
+pub some_within : (n place : ℕ) (bytes rest : List ℕ) (group : List Record) → read_group bytes ≡ Some (group, rest)
     → groups_within (suc n) place bytes ≡ record { at = place; group = group } ∷ groups_within n (place + (length bytes - length rest)) rest
 unfolding groups_within
 some_within n place bytes rest group found =
     ap (λ (o : Option (List Record × List ℕ)). option_map_or (λ found. record { at = place; group = found.0 } ∷ groups_within n (place + (length bytes - length found.1)) found.1) o []) found
 
 -- nothing stands in no bytes
-none_in_none : read_group [] ≡ None
+pub none_in_none : read_group [] ≡ None
 unfolding read_group counted_at
 none_in_none = ap (λ (o : Option (ℕ × List ℕ)). (o >>= (λ count. bytes_at count.0 count.1)) >>= (λ content. read_content content.0 >>= (λ group. Some (group, content.1)))) (number_short 4 [] (omega arith))
 

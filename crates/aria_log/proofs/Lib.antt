@@ -16,3 +16,4 @@ pub mod Cutting
 pub mod Blank
 pub mod Testing
 pub mod Zeros
+pub mod Later
