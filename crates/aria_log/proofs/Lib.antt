@@ -17,3 +17,5 @@ pub mod Blank
 pub mod Testing
 pub mod Zeros
 pub mod Later
+pub mod Purging
+pub mod Purged

@@ -88,7 +88,7 @@ synced_failed start old new f base whole parts there done failed only so_far syn
     not_done false e finished = absurd (cc)
 
 -- pages that are the same hold the same run
-same_run : (a b : Pieces) (n : ℕ) (begins : Bool) (parts : List (List ℕ)) → ((k : ℕ) → n ≤ k → k < n + length parts → b k ≡ a k) → HoldRun a n begins parts → HoldRun b n begins parts
+pub same_run : (a b : Pieces) (n : ℕ) (begins : Bool) (parts : List (List ℕ)) → ((k : ℕ) → n ≤ k → k < n + length parts → b k ≡ a k) → HoldRun a n begins parts → HoldRun b n begins parts
 same_run a b n begins [] same run = tt
 same_run a b n begins (bytes ∷ parts) same run =
     (same n (omega arith) (omega arith) ∙ run.0, same_run a b (n + 1) false parts (λ k from below. same k (omega (arith, from)) (omega (arith, below))) run.1)

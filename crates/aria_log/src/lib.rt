@@ -12,6 +12,7 @@
 //! log.start(&mut host)?;                          // once, before the first group
 //! let lsn = log.append(&mut host, bytes)?;        // the bytes of one group; as often as wanted
 //! log.force(&mut host)?;                          // all groups are on the disk: append and force again
+//! log.purge(alloc, &mut host, lsn)?;              // removes the files before the place of the oldest group that is needed
 //! ```
 //!
 //! `force` also makes room ahead: pages of zeros behind the log's end, so that the file needn't grow at each force. Zeros
@@ -28,6 +29,7 @@ mod filling;
 mod log;
 mod log_page;
 mod place;
+mod purge;
 mod start;
 
 pub use log::Log;
