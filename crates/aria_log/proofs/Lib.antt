@@ -2,6 +2,7 @@ pub mod Counting
 pub mod LogPages
 pub mod Sealing
 pub mod Filled
+pub mod PageReads
 pub mod GroupLists
 pub mod Fronts
 pub mod PutPages

@@ -1,5 +1,5 @@
 -- A log that is started: later files are removed, and the last one is cut to the log's end.
-use Rattle.std.proofs.Common.{◌≡◌, ◌==◌, ◌⊎◌, inl, inr, ℕ, ◌+◌, ◌-◌, ◌/◌, ◌%◌, ◌^◌, ◌<◌, ◌≤◌, Bool, true, false, IsTrue, Option, None, Some, List, length, refl, sym, ◌∙◌, ap, subst, arith}
+use Rattle.std.proofs.Common.{◌≡◌, ◌==◌, ◌⊎◌, inl, inr, ℕ, ◌+◌, ◌/◌, ◌%◌, ◌^◌, ◌<◌, ◌≤◌, Bool, true, false, IsTrue, Option, None, Some, List, length, refl, sym, ◌∙◌, ap, subst, arith}
 use Rattle.std.specs.Prelude.{IsSome}
 use Rattle.std.specs.Option.{option_map_or}
 use Rattle.std.proofs.lemmas.Bool.{cases_Bool, cases_lt, eqb-true}
@@ -11,12 +11,13 @@ use Rattle.aria_host.specs.Calls.{Removes}
 use Rattle.aria_host.specs.Seen.{page_or_zero}
 use Rattle.aria_host.proofs.Files.{with_file-same, with_file-other}
 use Rattle.aria_log.specs.declared.log.Log.{Log as LogValue}
-use Rattle.aria_log.specs.LogPage.{IsLogPage, read_log_page}
+use Rattle.aria_log.specs.LogPage.{read_log_page}
 use Rattle.aria_log.specs.Pieces.{Piece, LogFiles, log_files, pieces_of, Stand, IsFront, may_behind}
 use Rattle.aria_log.specs.Groups.{Logged}
 use Rattle.aria_log.specs.Files.{IsSoundLog}
 use Rattle.aria_log.specs.Log.{SameOthers, file_of, IsBaseOf, AreAtRest, IsOpened, HoldsAll, Starts}
-use Rattle.aria_log.proofs.LogPages.{zero_reads, no_read}
+use Rattle.aria_log.proofs.LogPages.{zero_reads}
+use Rattle.aria_log.proofs.PageReads.{high_reads}
 use Rattle.aria_log.proofs.Counting.{differ_below, lower_unless_same}
 use Rattle.aria_log.proofs.Fronts.{stand_same, next_same, next_none}
 use Rattle.aria_log.proofs.PutPages.{none_isnt, others_stay}
@@ -42,9 +43,6 @@ opened_holds log s base groups last is = record {
 }
 
 -- a page that is numbered too high isn't valid
-high_reads : (n : ℕ) (page : List ℕ) → 2 ^ 34 - 1 ≤ n → read_log_page n page ≡ None
-high_reads n page high = no_read n page (λ (begins : Bool) (bytes : List ℕ) (is : IsLogPage n begins bytes page). omega (arith, is.low, high))
-
 pub high_piece : (files : LogFiles) (n : ℕ) → 2 ^ 34 ≤ n → pieces_of files n ≡ None
 unfolding pieces_of
 high_piece files n high = high_reads n (page_or_zero (n % 1024) (files (n / 1024))) (omega (arith, high))

@@ -6,3 +6,4 @@ pub mod Log
 pub mod Purge
 pub mod Spelling
 pub mod Causes
+pub mod Reading

@@ -30,9 +30,11 @@ mod log;
 mod log_page;
 mod place;
 mod purge;
+mod reader;
 mod start;
 
 pub use log::Log;
+pub use reader::Reader;
 
 #[cfg(test)]
 mod tests;
