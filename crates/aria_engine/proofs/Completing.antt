@@ -6,12 +6,10 @@ use Rattle.aria_host.specs.declared.host.Stream.TheVariants.{Out}
 use Rattle.aria_host.specs.Folder.{Folder}
 use Rattle.aria_host.specs.State.{State, LeavesOnly}
 use Rattle.aria_host.specs.Calls.{Tells}
-use Rattle.aria_host.proofs.Moments.{started, goes_on, joined, weakened}
+use Rattle.aria_host.proofs.Moments.{OnlyNow, started, goes_on, joined, weakened, nothing_moves, implied}
 use Rattle.aria_journal.specs.declared.log.Log.{Log as LogValue}
 use Rattle.aria_journal.specs.Runs.{HoldsFrames, HoldsFrom}
 use Rattle.aria_journal.specs.Log.{log_file, SameOthers, AtLog, LogMoments, LogKeeps, IsLog}
-use Rattle.aria_journal.proofs.Writing.{OnlyNow, more_at_log}
-use Rattle.aria_journal.proofs.Appending.{nothing_moves}
 use Rattle.aria_journal.proofs.Keeping.{log_images, log_over_tell}
 use Rattle.aria_engine.specs.Holds.{IsLogAlone, AreLogAlone}
 use Rattle.aria_engine.specs.Turns.{with_line, HoldsEither, LeavesLines, Completes}
@@ -37,12 +35,12 @@ pub kept_either : (old new : State) (lines : List (List ℕ)) (line : List ℕ) 
     → LogMoments old new (λ content. HoldsEither content lines (with_line kept lines line))
 kept_either old new lines line kept is keeps =
     subst (λ (b : Bool). LogMoments old new (λ content. HoldsEither content lines (with_line b lines line))) (sym is)
-    (more_at_log old new (λ content. HoldsFrom content (lines ++ line ∷ []) (length lines)) (λ content. HoldsEither content lines (lines ++ line ∷ [])) keeps (λ content from. either_from content lines line from))
+    (implied old new keeps (λ c. either_from (c log_file) lines line))
 
 -- no line was kept
 pub none_either : (log : LogValue) (s : State) (lines after : List (List ℕ)) → OnlyNow s → IsLog log s lines (length lines) → LogMoments s s (λ content. HoldsEither content lines after)
 none_either log s lines after only is =
-    nothing_moves s (λ content. HoldsEither content lines after) only (λ c leaves. inl (whole_from (c log_file) lines (log_images log s lines (length lines) is c leaves)))
+    nothing_moves s only (λ c leaves. inl (whole_from (c log_file) lines (log_images log s lines (length lines) is c leaves)))
 
 -- other files are none
 pub alone_after : (d c : Folder) → SameOthers d c → IsLogAlone d → IsLogAlone c
@@ -59,7 +57,7 @@ keeping old new before after text keeps alone =
     let (d, was, same) = at.others in
     record {
       alone = alone_after d c same (alone d was);
-      either = ⊎_elim (λ h. inl (h, at.told_is)) (λ h. inr (h, 0, at.told_is ∙ sym (append-nil old.out))) at.log;
+      either = ⊎_elim (λ h. inl (h, at.told_is)) (λ h. inr (h, 0, at.told_is ∙ sym (append-nil old.out))) at.has;
     })
 
 -- the line didn't come to the disk for sure

@@ -7,9 +7,8 @@ use Rattle.aria_host.specs.State.{State}
 use Rattle.aria_host.specs.Steps.{MayMake}
 use Rattle.aria_host.specs.Calls.{Creates, Syncs, Narrows, TellsNothing}
 use Rattle.aria_host.proofs.Files.{with_file-same, with_file-other}
-use Rattle.aria_host.proofs.Moments.{started, goes_on, joined}
+use Rattle.aria_host.proofs.Moments.{OnlyNow, started, goes_on, joined}
 use Rattle.aria_journal.specs.Log.{log_file, log_pages}
-use Rattle.aria_journal.proofs.Writing.{OnlyNow}
 use Rattle.aria_model.specs.World.{World}
 use Rattle.aria_engine.specs.Holds.{Holds, EachHolds, EachHoldsSome, ReadsAs}
 use Rattle.aria_engine.specs.Store.{StillHolds, OpensAs}

@@ -14,14 +14,13 @@ use Rattle.aria_host.specs.Folder.{Folder, page_count}
 use Rattle.aria_host.specs.State.{State, LeavesOnly}
 use Rattle.aria_host.specs.Steps.{MayMake}
 use Rattle.aria_host.specs.Calls.{Creates, Syncs, Unchanged, HaveNames, Narrows, TellsNothing, extent_of}
-use Rattle.aria_host.proofs.Files.{with_file-same, with_file-other}
-use Rattle.aria_host.proofs.Moments.{started, goes_on, joined, weakened, looks, narrows_then}
+use Rattle.aria_host.proofs.Files.{with_file-same, with_file-other, set_others, make_others}
+use Rattle.aria_host.proofs.Moments.{OnlyNow, started, goes_on, joined, weakened, one_call, one_after, implied, looks, sync_narrows, narrows_then}
 use Rattle.aria_journal.specs.declared.log.Log.{Log as LogValue}
 use Rattle.aria_journal.specs.Front.{front, frames_of_runs, runs, frames_of, end_of, begins_behind, damaged_at}
 use Rattle.aria_journal.specs.Runs.{HoldsFrames}
 use Rattle.aria_journal.specs.Log.{log_file, log_pages, log_of, SameOthers, AtLog, LogMoments, IsLog, IsLogAtRest, IsOpened, place}
-use Rattle.aria_journal.proofs.Starting.{end_within, others_kept}
-use Rattle.aria_journal.proofs.Writing.{OnlyNow, one_call, one_after, more_at_log}
+use Rattle.aria_journal.proofs.Starting.{end_within}
 use Rattle.aria_model.specs.World.{World, empty_world}
 use Rattle.aria_model.specs.Journal.{first_no_change}
 use Rattle.aria_engine.specs.declared.store.Store.{Store}
@@ -47,7 +46,7 @@ one_keeps old new only tells each same others = record {
       (λ c n leaves. (each w holds c leaves, ap (λ (l : List ℕ). old.out ++ l) (nothing_of n) ∙ append-nil old.out));
   each = each;
   silent = record { out = tells.out; err = tells.err };
-  others = one_call old new (λ content. Unit {0}) only tells same (λ c leaves. tt) (λ c leaves. let from = others c leaves in (tt, from.0, from.1, from.2));
+  others = one_call old new only tells same (λ c leaves. tt) (λ c leaves. let from = others c leaves in (tt, from.0, from.1, from.2));
 }
 
 -- a call that changes nothing
@@ -68,7 +67,7 @@ keeps_then a b c first then = record {
       (λ f told left. (left.0, left.1 ∙ first.silent.out));
   each = λ w holds. then.each w (first.each w holds);
   silent = record { out = then.silent.out ∙ first.silent.out; err = then.silent.err ∙ first.silent.err };
-  others = one_after a b c (λ content. Unit {0}) first.others then.others;
+  others = one_after a b c first.others then.others;
 }
 
 -- where other files are none and the log's pages are those of a folder that holds tables
@@ -80,13 +79,9 @@ same_log c d w alone same holds =
 pub created_keeps : (old new : State) (done : Bool) → OnlyNow old → old.may_leave old.folder → old.folder log_file ≡ None → Creates log_file old new done → Keeps old new
 created_keeps old new done only reads absent makes = one_keeps old new only makes.tells (λ w holds c leaves.
     let (d, was, step) = makes.images c leaves in by w c d (holds d was) (holds old.folder reads) step)
-    (⊎_elim (λ same f other. ap (λ (g : Folder). g f) same) (λ made. others_kept (Some []) old.folder new.folder made) makes.either)
-    (λ c leaves. let (d, was, step) = makes.images c leaves in (d, was, alike c d step))
+    (λ f other. set_others log_file f (Some []) old.folder new.folder other makes.either)
+    (λ c leaves. let (d, was, step) = makes.images c leaves in (d, was, λ f other. make_others log_file f (Some []) done d c other step))
   where
-    alike : (c d : Folder) → MayMake log_file (Some []) done d c → SameOthers d c
-    alike c d (inl made) = others_kept (Some []) d c made
-    alike c d (inr stays) = λ f other. ap (λ (g : Folder). g f) stays.1
-
     by : (w : World) (c d : Folder) → Holds d w → Holds old.folder w → MayMake log_file (Some []) done d c → Holds c w
     by w c d held now (inl made) =
         let none : log_pages old.folder ≡ [] = ap (λ (o : Option (List (List ℕ))). unwrap_or o []) absent in
@@ -95,11 +90,8 @@ created_keeps old new done only reads absent makes = one_keeps old new only make
     by w c d held now (inr stays) = subst (λ (g : Folder). Holds g w) (sym stays.1) held
 
 -- the log's file was brought to the disk
-pub synced_narrows : (old new : State) (done : Bool) → Syncs log_file old new done → Narrows old new
-synced_narrows old new done syncs = record { folder = syncs.folder; no_more = syncs.no_more; tells = syncs.tells }
-
 pub synced_keeps : (old new : State) (done : Bool) → OnlyNow old → Syncs log_file old new done → Keeps old new
-synced_keeps old new done only syncs = narrows_keeps old new only (synced_narrows old new done syncs)
+synced_keeps old new done only syncs = narrows_keeps old new only (sync_narrows old new syncs)
 
 -- each image has a file that was made, and one that is brought to the disk and had its name there
 pub created_rest : (old new : State) (done : Bool) → IsTrue done → Creates log_file old new done → IsLogAtRest new
@@ -150,7 +142,7 @@ created_same old mid new done is same absent makes = inr (
 )
 
 pub synced_same : (old mid new : State) (done : Bool) → ((t : ℕ) (f : Folder) → t ≤ old.moment → old.may_leave f → old.since t f old.out) → Unchanged old mid → Syncs log_file mid new done → SameLog old new
-synced_same old mid new done counts same syncs = inl (narrows_then old mid new counts (looks old mid same) (synced_narrows mid new done syncs))
+synced_same old mid new done counts same syncs = inl (narrows_then old mid new counts (looks old mid same) (sync_narrows mid new syncs))
 
 -- a look finds no file
 pub not_found : (folder : Folder) (found : Option Extent) → found ≡ extent_of (folder log_file) → found ≡ None → folder log_file ≡ None
@@ -167,7 +159,7 @@ started_keeps old new reads counts starts = record {
   moments = moments;
   each = λ w holds c leaves. ((moments w holds).each c new.out (counts c leaves)).0;
   silent = record { out = starts.others.out; err = starts.others.err };
-  others = more_at_log old new (λ content. HoldsFrames content (log_of old.folder)) (λ content. Unit {0}) starts (λ content holds. tt);
+  others = implied old new starts (λ c holds. tt);
 }
   where
     moments : (w : World) → EachHolds old w → LeavesOnly old new (StillHolds w old.out)
@@ -175,7 +167,7 @@ started_keeps old new reads counts starts = record {
         weakened old new (AtLog old (λ content. HoldsFrames content (log_of old.folder))) (StillHolds w old.out) starts.moments (λ c b at.
         let (d, was, same) = at.others in
         let now = holds old.folder reads in
-        (holds_lines c (log_of old.folder) w (alone_after d c same (holds d was).alone) at.log.frames_are at.log.sound now.changes now.world_is, at.told_is))
+        (holds_lines c (log_of old.folder) w (alone_after d c same (holds d was).alone) at.has.frames_are at.has.sound now.changes now.world_is, at.told_is))
 
 -- a store that was recovered runs once its log is started
 pub recovered_runs : (before now : Store) (old new : State) → Recovered before old.folder → tables_of now ≡ tables_of before

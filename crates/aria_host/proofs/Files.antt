@@ -1,5 +1,5 @@
 -- Names of files, and what changes of one file do to a folder.
-use Rattle.std.proofs.Common.{◌≡◌, ◌==◌, inl, inr, ℕ, suc, ◌+◌, ◌-◌, ◌<◌, max, Bool, true, false, cond, Option, None, Some, is_some, List, ◌∷◌, ◌++◌, length, take, drop, replicate, get_or, refl, sym, ◌∙◌, ap, subst, arith, length-append, length-drop, append_assoc}
+use Rattle.std.proofs.Common.{◌≡◌, ◌⊎◌, ◌==◌, inl, inr, ℕ, suc, ◌+◌, ◌-◌, ◌<◌, max, Bool, true, false, cond, Option, None, Some, is_some, List, ◌∷◌, ◌++◌, length, take, drop, replicate, get_or, refl, sym, ◌∙◌, ap, subst, arith, length-append, length-drop, append_assoc}
 use Rattle.std.specs.Cmp.Lexicographic.{bytes_decides}
 use Rattle.std.proofs.lemmas.Bool.{cases_lt, cases_order, eqb-true, eq-eqb, false_from_ne_true}
 use Rattle.std.proofs.lemmas.List.{length-take, length-replicate, get_or_append_left, get_or-append_right, get_or-take, get_or-drop, get_or-replicate, get_or_past, get_or_at}
@@ -96,6 +96,11 @@ pub get_or-put_page : (at n : ℕ) (page : List ℕ) (pages : List (List ℕ)) �
 unfolding put_page
 get_or-put_page at n page pages = get_or-whole zero_page at page pages n
 
+-- a call that sets what a file holds, or doesn't, leaves each other file alone
+pub set_others : (file f : FileName) (content : Option (List (List ℕ))) (before now : Folder) → same_file file f ≡ false → (now ≡ before) ⊎ (now ≡ with_file file content before) → now f ≡ before f
+set_others file f content before now other (inl lost) = ap (λ (c : Folder). c f) lost
+set_others file f content before now other (inr kept) = ap (λ (c : Folder). c f) kept ∙ with_file-other file f content before other
+
 -- a write leaves each other file alone, in every image
 pub write_others : (file f : FileName) (at : ℕ) (page : List ℕ) (before now : Folder) → same_file file f ≡ false → MayWrite file at page before now → now f ≡ before f
 write_others file f at page before now other (inl lost) = ap (λ (c : Folder). c f) lost
@@ -106,9 +111,7 @@ write_others file f at page before now other (inr (inr (log, torn, long, sums, i
 
 -- and so does a cut
 pub cut_others : (file f : FileName) (pages : ℕ) (before now : Folder) → same_file file f ≡ false → MayCut file pages before now → now f ≡ before f
-cut_others file f pages before now other (inl lost) = ap (λ (c : Folder). c f) lost
-cut_others file f pages before now other (inr kept) =
-    ap (λ (c : Folder). c f) kept ∙ with_file-other file f (option_map (take pages) (before file)) before other
+cut_others file f pages before now other cut = set_others file f (option_map (take pages) (before file)) before now other cut
 
 -- and a file that is made or removed
 pub make_others : (file f : FileName) (content : Option (List (List ℕ))) (done : Bool) (before now : Folder) → same_file file f ≡ false → MayMake file content done before now

@@ -7,6 +7,7 @@ pub mod Steps
 pub mod Effect
 pub mod Seen
 pub mod Calls
+pub mod Moments
 pub mod Listing
 pub mod Extent
 pub mod System

@@ -3,12 +3,11 @@ use Rattle.std.proofs.Common.{◌≡◌, inr, ℕ, ◌+◌, ◌≤◌, Bool, tru
 use Rattle.std.proofs.lemmas.List.{append-nil, length_push, drop-take, take-append-drop, take-take, take_all}
 use Rattle.aria_host.specs.Folder.{Folder}
 use Rattle.aria_host.specs.State.{State}
-use Rattle.aria_host.proofs.Moments.{started}
+use Rattle.aria_host.proofs.Moments.{OnlyNow, nothing_moves, one_after, implied}
 use Rattle.aria_journal.specs.declared.log.Log.{Log as LogValue}
 use Rattle.aria_journal.specs.Runs.{begins_next}
-use Rattle.aria_journal.specs.Log.{log_file, AtLog, LogMoments, IsImage, Fills, IsAt, Wrote, Adds}
+use Rattle.aria_journal.specs.Log.{log_file, LogMoments, IsImage, Fills, IsAt, Wrote, Adds}
 use Rattle.aria_journal.proofs.Images.{run_closed}
-use Rattle.aria_journal.proofs.Writing.{OnlyNow, one_after, more_at_log}
 
 -- an image of some bytes is one of more
 pub image_longer : (base : List (List ℕ)) (text more : List ℕ) (content : Option (List (List ℕ))) → IsImage base text content → IsImage base (text ++ more) content
@@ -38,16 +37,9 @@ image_now log s base text is c leaves =
       text_is = is.text_is;
     }
 
--- nothing was done
-pub nothing_moves : (s : State) (P : Option (List (List ℕ)) → Type 0) → OnlyNow s → ((c : Folder) → s.may_leave c → P (c log_file)) → LogMoments s s P
-nothing_moves s P only here = record {
-  moments = started s (AtLog s P) (λ c b left. let now = only c b left in record { log = here c now.0; others = (c, now.0, λ f other. refl); told_is = now.1 });
-  others = record { folder = λ f other. refl; images = λ c leaves. (c, leaves, λ f other. refl); out = refl; err = refl };
-}
-
 -- nothing was appended
 pub adds_nothing : (log : LogValue) (s : State) (base : List (List ℕ)) (text : List ℕ) → OnlyNow s → IsAt log s base text → Adds log s s base text true
-adds_nothing log s base text only is = record { at = λ done. is; keeps = nothing_moves s (IsImage base text) only (image_now log s base text is) }
+adds_nothing log s base text only is = record { at = λ done. is; keeps = nothing_moves s only (image_now log s base text is) }
 
 -- behind a written page no run begins
 no_beginning : (written : List (List ℕ)) (page : List ℕ) → begins_next (written ++ page ∷ []) ≡ false
@@ -84,15 +76,15 @@ filled_adds log log' old new base text part done adds filled = record {
     fills = filled _ _ is.held is.fills;
     text_is = sym (append_assoc is.before is.held part) ∙ ap (λ (l : List ℕ). l ++ part) is.text_is;
   };
-  keeps = more_at_log old new (IsImage base text) (IsImage base (text ++ part)) adds.keeps (image_longer base text part);
+  keeps = implied old new adds.keeps (λ c. image_longer base text part (c log_file));
 }
 
 -- bytes were appended, and then more
 pub adds_after : (log1 log2 : LogValue) (a b c : State) (base : List (List ℕ)) (text part all : List ℕ) (done : Bool) → Adds log1 a b base text true → text ++ part ≡ all → Adds log2 b c base all done → Adds log2 a c base all done
 adds_after log1 log2 a b c base text part all done first e second = record {
   at = second.at;
-  keeps = one_after a b c (IsImage base all)
-      (more_at_log a b (IsImage base text) (IsImage base all) first.keeps (λ content is. subst (λ (l : List ℕ). IsImage base l content) e (image_longer base text part content is)))
+  keeps = one_after a b c
+      (implied a b first.keeps (λ d is. subst (λ (l : List ℕ). IsImage base l (d log_file)) e (image_longer base text part (d log_file) is)))
       second.keeps;
 }
 
@@ -122,8 +114,8 @@ adds_failed log1 log2 a b c base text bytes at done first next failed =
     let is : (text ++ take at bytes) ++ drop at bytes ≡ text ++ bytes = append_assoc text (take at bytes) (drop at bytes) ∙ ap (λ (l : List ℕ). text ++ l) (take-append-drop at bytes) in
     record {
       at = λ finished. absurd (not_done done failed finished);
-      keeps = more_at_log a c (IsImage base (text ++ take at bytes)) (IsImage base (text ++ bytes)) (one_after a b c (IsImage base (text ++ take at bytes)) first.keeps (next (first.at refl)))
-          (λ content image. subst (λ (l : List ℕ). IsImage base l content) is (image_longer base (text ++ take at bytes) (drop at bytes) content image));
+      keeps = implied a c (one_after a b c first.keeps (next (first.at refl)))
+          (λ d image. subst (λ (l : List ℕ). IsImage base l (d log_file)) is (image_longer base (text ++ take at bytes) (drop at bytes) (d log_file) image));
     }
 
 -- all bytes were appended

@@ -9,6 +9,7 @@ use Rattle.aria_page.specs.Number.{number}
 use Rattle.aria_host.specs.Folder.{Folder}
 use Rattle.aria_host.specs.State.{State}
 use Rattle.aria_host.specs.Calls.{Syncs}
+use Rattle.aria_host.proofs.Moments.{OnlyNow, nothing_moves, one_look, one_after, implied, sync_narrows}
 use Rattle.aria_journal.specs.declared.log.Log.{Log as LogValue}
 use Rattle.aria_journal.specs.LogPage.{log_body}
 use Rattle.aria_journal.specs.Frames.{IsFrame, frame_bytes, frames_bytes, frames_in}
@@ -16,8 +17,8 @@ use Rattle.aria_journal.specs.Runs.{IsRun, IsWhole, HoldsFrom, begins_next}
 use Rattle.aria_journal.specs.Log.{log_file, LogMoments, LogKeeps, IsImage, IsWriting, IsAt, IsLog, Wrote, Adds}
 use Rattle.aria_journal.proofs.FrameLists.{all_found, length-frame_bytes}
 use Rattle.aria_journal.proofs.Images.{image_from, whole_and_run}
-use Rattle.aria_journal.proofs.Writing.{OnlyNow, is_there, one_call, one_after, more_at_log}
-use Rattle.aria_journal.proofs.Appending.{nothing_moves, image_now}
+use Rattle.aria_journal.proofs.Writing.{is_there}
+use Rattle.aria_journal.proofs.Appending.{image_now}
 
 -- a frame more, as it is stored
 frames_push : (frames : List (List ℕ)) (frame : List ℕ) → frames_bytes (frames ++ frame ∷ []) ≡ (frames_bytes frames ++ number 4 (length frame)) ++ frame
@@ -36,7 +37,7 @@ pushed_bytes frames forced frame few = sym (frames_push (drop forced frames) fra
 pub keeps_frames : (old new : State) (base frames : List (List ℕ)) (forced : ℕ) (text ahead : List ℕ) → IsWhole base (take forced frames) → forced ≤ length frames → All IsFrame (drop forced frames)
     → text ++ ahead ≡ frames_bytes (drop forced frames) → LogMoments old new (IsImage base text) → LogKeeps old new frames forced
 keeps_frames old new base frames forced text ahead whole few are spells run =
-    more_at_log old new (IsImage base text) (λ content. HoldsFrom content frames forced) run (λ content is.
+    implied old new run (λ c is.
     let all : is.before ++ (is.ahead ++ ahead) ≡ frames_bytes (drop forced frames) = sym (append_assoc is.before is.ahead ahead) ∙ ap (λ (l : List ℕ). l ++ ahead) is.text_is ∙ spells in
     subst (λ (o : Option (List (List ℕ))). HoldsFrom o frames forced) (sym is.content_is)
     (image_from true base is.written is.more frames forced is.before (is.ahead ++ ahead) whole few are is.run is.part all))
@@ -74,7 +75,7 @@ appended log log1 log2 a b c frames forced frame head done is fits head_is first
         at = subst (λ (l : List ℕ). IsAt log2 c is.base l) spelled (second.at finished);
         idle = λ none. let some : 1 ≤ log2.used = used finished in absurd (omega (arith, some, none));
       },
-      one_after a b c (λ content. HoldsFrom content (frames ++ frame ∷ []) forced) run more,
+      one_after a b c run more,
     )
 
 -- it failed while the length of a frame was appended
@@ -112,12 +113,7 @@ idle_forced log s frames forced is none =
 pub idle_keeps : (log : LogValue) (s : State) (frames : List (List ℕ)) (forced : ℕ) → OnlyNow s → IsLog log s frames forced → LogKeeps s s frames forced
 idle_keeps log s frames forced only is =
     keeps_frames s s is.base frames forced (frames_bytes (drop forced frames)) [] is.whole is.within is.are (append-nil (frames_bytes (drop forced frames)))
-    (nothing_moves s (IsImage is.base (frames_bytes (drop forced frames))) only (image_now log s is.base (frames_bytes (drop forced frames)) is.at))
-
--- the log's file is brought to the disk
-pub sync_step : (old new : State) (done : Bool) (P : Option (List (List ℕ)) → Type 0) → OnlyNow old → Syncs log_file old new done → ((c : Folder) → old.may_leave c → P (c log_file)) → LogMoments old new P
-sync_step old new done P only syncs here =
-    one_call old new P only syncs.tells (λ f other. ap (λ (g : Folder). g f) syncs.folder) here (λ c leaves. (here c (syncs.no_more c leaves), c, syncs.no_more c leaves, λ f other. refl))
+    (nothing_moves s only (image_now log s is.base (frames_bytes (drop forced frames)) is.at))
 
 -- what a crash leaves of the log's file while the run is closed
 image_closed : (s : State) (base written : List (List ℕ)) (text : List ℕ) → IsWriting true s base written text → (c : Folder) → s.may_leave c → IsImage base text (c log_file)
@@ -132,7 +128,7 @@ closed_keeps log log' a b c frames forced synced only is wrote syncs =
     let text : List ℕ = is.at.before ++ is.at.held in
     let writing = wrote.writing refl true (inl refl) in
     keeps_frames a c is.base frames forced text [] is.whole is.within is.are (append-nil text ∙ is.at.text_is)
-    (one_after a b c (IsImage is.base text) wrote.keeps (sync_step b c synced (IsImage is.base text) only syncs (image_closed b is.base (is.at.written ++ wrote.page ∷ []) text writing)))
+    (one_after a b c wrote.keeps (one_look b c only (sync_narrows b c syncs) (image_closed b is.base (is.at.written ++ wrote.page ∷ []) text writing)))
 
 -- the last page was not written
 pub unwritten_keeps : (log log' : LogValue) (a b : State) (frames : List (List ℕ)) (forced : ℕ) (done : Bool) → (is : IsLog log a frames forced)

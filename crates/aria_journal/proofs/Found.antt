@@ -1,8 +1,6 @@
 -- What the opening of a log finds.
-use Rattle.std.proofs.Common.{◌≡◌, ℕ, Bool, true, false, cond, None, Some, List, [], length, drop, sym, ◌∙◌, ap}
+use Rattle.std.proofs.Common.{◌≡◌, ℕ, Bool, true, false, cond, None, Some, List, [], drop, sym, ◌∙◌, ap}
 use Rattle.aria_host.specs.Folder.{Folder}
-use Rattle.aria_host.specs.State.{State}
-use Rattle.aria_host.specs.Calls.{Unchanged}
 use Rattle.aria_journal.specs.declared.log.Log.{Log as LogValue}
 use Rattle.aria_journal.specs.Front.{end_of, begins_behind, damaged_at}
 use Rattle.aria_journal.specs.Log.{log_pages, Fills, IsOpened}
@@ -23,7 +21,3 @@ found_sound log folder number found at is none fills = record {
 -- a run begins behind the log's end
 pub found_damaged : (folder : Folder) (number : ℕ) (found : Bool) → number ≡ end_of (log_pages folder) → found ≡ begins_behind number (drop number (log_pages folder)) → found ≡ true → damaged_at (log_pages folder) ≡ Some number
 found_damaged folder number found at is some = damaged_by (log_pages folder) number found at is ∙ ap (λ (b : Bool). cond b (Some number) None) some
-
--- the log's file has as many pages as before
-pub same_count : (old new : State) → Unchanged old new → length (log_pages new.folder) ≡ length (log_pages old.folder)
-same_count old new same = ap (λ (f : Folder). length (log_pages f)) same.folder

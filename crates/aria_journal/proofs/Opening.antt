@@ -1,13 +1,12 @@
 -- The pages of the log's file are read one after the other, and nothing changes.
-use Rattle.std.proofs.Common.{◌≡◌, ◌||◌, inl, inr, ⊎_elim, ℕ, zero, suc, ◌+◌, ◌≤◌, Bool, true, false, Option, None, Some, unwrap_or, List, [], ◌∷◌, ◌++◌, length, take, drop, map, refl, sym, ◌∙◌, ap, subst, arith}
+use Rattle.std.proofs.Common.{◌≡◌, ◌||◌, ℕ, zero, suc, ◌+◌, ◌≤◌, Bool, true, false, Option, None, Some, unwrap_or, List, [], ◌∷◌, ◌++◌, length, drop, map, refl, sym, ◌∙◌, ap, subst, arith}
 use Rattle.std.specs.Prelude.{slice_get, option_and_then}
 use Rattle.std.specs.Option.{option_map_or}
 use Rattle.std.specs.Bool.{MatchBool}
 use Rattle.std.proofs.lemmas.List.{drop_all, append-nil}
 use Rattle.std.proofs.lemmas.Option.{same_Some}
 use Rattle.aria_host.specs.Folder.{Folder, page_count}
-use Rattle.aria_host.specs.State.{State}
-use Rattle.aria_host.specs.Calls.{Unchanged, IsPage}
+use Rattle.aria_host.specs.Calls.{IsPage}
 use Rattle.aria_journal.specs.LogPage.{read_log_page}
 use Rattle.aria_journal.specs.Frames.{frames_in, frames_within}
 use Rattle.aria_journal.specs.Front.{Piece, is_full, front, runs, run_rest, frames_of_runs, frames_of, end_of, begins_behind}
@@ -16,39 +15,6 @@ use Rattle.aria_journal.specs.Places.{bytes_from, pages_from, frame_pages, frame
 use Rattle.aria_journal.specs.Collected.{all_frames, all_pages}
 use Rattle.aria_journal.specs.Log.{log_file, log_pages}
 use Rattle.aria_journal.proofs.Fronts.{front_nil, front_some, front_none, piece_some, piece_none, piece_other, quiet_nil}
-
--- nothing happened
-pub unchanged_now : (s : State) → ((t : ℕ) (c : Folder) (b : List ℕ) → s.since t c b → s.since t c b) → Unchanged s s
-unchanged_now s id = record {
-  folder = refl;
-  images = record { no_more = λ c leaves. leaves; no_fewer = λ c leaves. leaves };
-  tells = record { out = refl; err = refl; time = record { later = omega arith; nothing_else = λ t c b le left. inl left; keeps = λ t c b le left. left } };
-}
-
--- a look after a look
-pub unchanged_after : (a b c : State) → Unchanged a b → Unchanged b c → Unchanged a c
-unchanged_after a b c first second = record {
-  folder = second.folder ∙ first.folder;
-  images = record {
-    no_more = λ f leaves. first.images.no_more f (second.images.no_more f leaves);
-    no_fewer = λ f leaves. second.images.no_fewer f (first.images.no_fewer f leaves);
-  };
-  tells = record {
-    out = second.tells.out ∙ first.tells.out;
-    err = second.tells.err ∙ first.tells.err;
-    time = record {
-      later = omega (arith, first.tells.time.later, second.tells.time.later);
-      nothing_else = λ t f told le left.
-          ⊎_elim (λ was.
-          ⊎_elim (λ before. inl before)
-          (λ now. inr (second.images.no_fewer f now.0, now.1, now.2))
-          (first.tells.time.nothing_else t f told le was))
-          (λ now. inr (now.0, now.1, now.2 ∙ ap (λ (l : List ℕ). l ++ take now.1 []) first.tells.out))
-          (second.tells.time.nothing_else t f told (omega (arith, le, first.tells.time.later)) left);
-      keeps = λ t f told le left. second.tells.time.keeps t f told (omega (arith, le, first.tells.time.later)) (first.tells.time.keeps t f told le left);
-    };
-  };
-}
 
 -- a page of a list that is there
 get_drop : (n : ℕ) (pages : List (List ℕ)) (page : List ℕ) → slice_get pages n ≡ Some page → drop n pages ≡ page ∷ drop (n + 1) pages

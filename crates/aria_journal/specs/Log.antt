@@ -3,7 +3,8 @@ use Rattle.std.specs.Prelude.{◌≡◌, ◌⊎◌, ℕ, ◌+◌, ◌*◌, ◌�
 use Rattle.aria_host.specs.declared.file_name.FileName.{FileName}
 use Rattle.aria_host.specs.declared.file_name.FileName.TheVariants.{Log}
 use Rattle.aria_host.specs.Folder.{Folder, same_file}
-use Rattle.aria_host.specs.State.{State, LeavesOnly}
+use Rattle.aria_host.specs.Moments.{SameBut, Left, Moments}
+use Rattle.aria_host.specs.State.{State}
 use Rattle.aria_journal.specs.declared.log.Log.{Log as LogValue}
 use Rattle.aria_journal.specs.LogPage.{log_body}
 use Rattle.aria_journal.specs.Frames.{IsFrame, frames_bytes}
@@ -16,25 +17,15 @@ log_file = Log 1
 
 -- all other files are as they were
 abbrev pub SameOthers : Folder → Folder → Type 0
-SameOthers old new = (f : FileName) → same_file log_file f ≡ false → new f ≡ old f
-
--- Files other than the log's are left alone, in each image too, and nothing is told.
-pub record LeavesOthers (old new : State) : Type 0 where
-  pub folder : SameOthers old.folder new.folder
-  pub images : (c : Folder) → new.may_leave c → (d : Folder) × old.may_leave d × SameOthers d c
-  pub out : new.out ≡ old.out
-  pub err : new.err ≡ old.err
+SameOthers = SameBut (same_file log_file)
 
 -- a crash leaves the file of the log with P, and all else as a crash before might have
-pub record AtLog (old : State) (P : Option (List (List ℕ)) → Type 0) (c : Folder) (told : List ℕ) : Type 0 where
-  pub log : P (c log_file)
-  pub others : (d : Folder) × old.may_leave d × SameOthers d c
-  pub told_is : told ≡ old.out
+abbrev pub AtLog : State → (Option (List (List ℕ)) → Type 0) → Folder → List ℕ → Type 0
+AtLog old P = Left (same_file log_file) old (λ c. P (c log_file))
 
 -- A crash at any moment leaves the file of the log with P, and all else is left alone.
-pub record LogMoments (old new : State) (P : Option (List (List ℕ)) → Type 0) : Type 0 where
-  pub moments : LeavesOnly old new (AtLog old P)
-  pub others : LeavesOthers old new
+abbrev pub LogMoments : State → State → (Option (List (List ℕ)) → Type 0) → Type 0
+LogMoments old new P = Moments (same_file log_file) old new (λ c. P (c log_file))
 
 -- what the file of the log may hold while these bytes are written as a run behind whole pages
 pub record IsImage (base : List (List ℕ)) (text : List ℕ) (content : Option (List (List ℕ))) : Type 0 where

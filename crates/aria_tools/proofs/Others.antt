@@ -6,9 +6,8 @@ use Rattle.aria_host.specs.declared.host.Stream.TheVariants as streams
 use Rattle.aria_host.specs.Folder.{Folder}
 use Rattle.aria_host.specs.State.{State, LeavesOnly, Elapses}
 use Rattle.aria_host.specs.Calls.{Narrows, Tells}
-use Rattle.aria_host.proofs.Moments.{started, goes_on, joined, weakened}
+use Rattle.aria_host.proofs.Moments.{OnlyNow, started, goes_on, joined, weakened}
 use Rattle.aria_journal.specs.Log.{AtLog}
-use Rattle.aria_journal.proofs.Writing.{OnlyNow}
 use Rattle.aria_engine.specs.declared.store.Store.{Store}
 use Rattle.aria_engine.specs.Holds.{IsLogAlone, AreLogAlone}
 use Rattle.aria_engine.specs.Opening.{ChangesLogAlone}

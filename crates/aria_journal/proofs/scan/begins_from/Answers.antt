@@ -1,6 +1,7 @@
 use Rattle.std.proofs.Common.{◌∙◌, ◌≤◌, length, sym, arith}
+use Rattle.aria_host.proofs.Moments.{unchanged_after}
 use Rattle.aria_journal.specs.Log.{log_pages}
-use Rattle.aria_journal.proofs.Opening.{unchanged_after, page_next, begun, not_begun, none_begun}
+use Rattle.aria_journal.proofs.Opening.{page_next, begun, not_begun, none_begun}
 use Rattle.aria_journal.proofs.scan.begins_from.Goals as goal
 
 pub returns-then-begins_run-clause-found : goal.returns-then-begins_run-clause-found

@@ -1,12 +1,13 @@
 use Rattle.std.proofs.Common.{◌≡◌, ◌∙◌, ◌≤◌, length, map, sym, ap, refl, arith}
+use Rattle.aria_host.proofs.Moments.{unchanged_now, unchanged_after}
 use Rattle.aria_journal.specs.declared.opened.Frame.{Frame}
 use Rattle.aria_journal.specs.Log.{log_pages}
-use Rattle.aria_journal.proofs.Opening.{unchanged_now, unchanged_after, page_next, read_none, read_taken, read_stops, read_past}
+use Rattle.aria_journal.proofs.Opening.{page_next, read_none, read_taken, read_stops, read_past}
 use Rattle.aria_journal.proofs.scan.read_front.Goals as goal
 
 pub loop-number-init : goal.loop-number-init
 loop-number-init g c = record {
-  same = λ told. unchanged_now (g.H.Host.state c.args.host.now) (λ t f b left. left);
+  same = λ told. unchanged_now (g.H.Host.state c.args.host.now);
   read = λ told.
       read_none (log_pages (g.H.Host.state c.args.host.now).folder) _ _ c.args.reader.now.first c.args.reader.now.run c.args.reader.now.full (ap (map (λ (f : Frame). f.bytes)) c.requires.frames) (ap (map (λ (f : Frame). f.page)) c.requires.frames)
       c.requires.first c.requires.run c.requires.full;
