@@ -50,54 +50,51 @@ seen_before : (f g : FileName) (seen : List FileName) → list_any (same_file f)
 seen_before f g seen among = list_any-append (same_file f) (seen) (g ∷ []) ∙ ap (λ (b : Bool). b || list_any (same_file f) (g ∷ [])) among
 
 -- nothing was seen
-pub first_none : (text : List ℕ) → IsFirst None text []
-first_none text = All-nil (λ (f : FileName). same_file log_file f ≡ true)
+pub first_none : IsFirst None []
+first_none = All-nil (λ (f : FileName). same_file log_file f ≡ true)
 
 -- the log's file was seen
-pub first_log : (first : Option FileName) (text : List ℕ) (f : FileName) → same_file log_file f ≡ true → (seen : List FileName) → IsFirst first text seen → IsFirst first text (seen ++ f ∷ [])
-first_log None text f log seen is = All-append (λ (g : FileName). same_file log_file g ≡ true) seen (f ∷ []) is (All-cons (λ (g : FileName). same_file log_file g ≡ true) f [] log (All-nil (λ (g : FileName). same_file log_file g ≡ true)))
-first_log (Some file) text f log seen is =
-    let P : FileName → Type 0 = λ g. same_file log_file g ≡ false → slice_cmp nat_cmp (file_text g) text ≡ Less → ⊥ in
+pub first_log : (first : Option FileName) (f : FileName) → same_file log_file f ≡ true → (seen : List FileName) → IsFirst first seen → IsFirst first (seen ++ f ∷ [])
+first_log None f log seen is = All-append (λ (g : FileName). same_file log_file g ≡ true) seen (f ∷ []) is (All-cons (λ (g : FileName). same_file log_file g ≡ true) f [] log (All-nil (λ (g : FileName). same_file log_file g ≡ true)))
+first_log (Some file) f log seen is =
+    let P : FileName → Type 0 = λ g. same_file log_file g ≡ false → slice_cmp nat_cmp (file_text g) (file_text file) ≡ Less → ⊥ in
     record {
       form = is.form;
       among = seen_before file f seen is.among;
       other = is.other;
-      text_is = is.text_is;
       least = All-append P seen (f ∷ []) is.least (All-cons P f [] (λ other less. differ log other) (All-nil P));
     }
 
 -- a file came behind the first
-pub first_stays : (file : FileName) (text : List ℕ) (f : FileName) → (slice_cmp nat_cmp (file_text f) text ≡ Less → ⊥) → (seen : List FileName) → IsFirst (Some file) text seen → IsFirst (Some file) text (seen ++ f ∷ [])
-first_stays file text f behind seen is =
-    let P : FileName → Type 0 = λ g. same_file log_file g ≡ false → slice_cmp nat_cmp (file_text g) text ≡ Less → ⊥ in
+pub first_stays : (file : FileName) (f : FileName) → (slice_cmp nat_cmp (file_text f) (file_text file) ≡ Less → ⊥) → (seen : List FileName) → IsFirst (Some file) seen → IsFirst (Some file) (seen ++ f ∷ [])
+first_stays file f behind seen is =
+    let P : FileName → Type 0 = λ g. same_file log_file g ≡ false → slice_cmp nat_cmp (file_text g) (file_text file) ≡ Less → ⊥ in
     record {
       form = is.form;
       among = seen_before file f seen is.among;
       other = is.other;
-      text_is = is.text_is;
       least = All-append P seen (f ∷ []) is.least (All-cons P f [] (λ other less. behind less) (All-nil P));
     }
 
 -- a file came before the first, or is the first other one
-pub first_new : (first : Option FileName) (text : List ℕ) (f : FileName) → IsFileName f → same_file log_file f ≡ false
-    → ((file : FileName) → first ≡ Some file → slice_cmp nat_cmp (file_text f) text ≡ Less) → (seen : List FileName) → IsFirst first text seen → IsFirst (Some f) (file_text f) (seen ++ f ∷ [])
-first_new first text f form other before seen is =
+pub first_new : (first : Option FileName) (f : FileName) → IsFileName f → same_file log_file f ≡ false
+    → ((file : FileName) → first ≡ Some file → slice_cmp nat_cmp (file_text f) (file_text file) ≡ Less) → (seen : List FileName) → IsFirst first seen → IsFirst (Some f) (seen ++ f ∷ [])
+first_new first f form other before seen is =
     let P : FileName → Type 0 = λ g. same_file log_file g ≡ false → slice_cmp nat_cmp (file_text g) (file_text f) ≡ Less → ⊥ in
     record {
       form = form;
       among = seen_last f seen;
       other = other;
-      text_is = refl;
       least = All-append P seen (f ∷ []) (earlier first before is) (All-cons P f [] (λ o less. not_before_itself (file_text f) less) (All-nil P));
     }
   where
-    earlier : (o : Option FileName) → ((file : FileName) → o ≡ Some file → slice_cmp nat_cmp (file_text f) text ≡ Less) → IsFirst o text seen
+    earlier : (o : Option FileName) → ((file : FileName) → o ≡ Some file → slice_cmp nat_cmp (file_text f) (file_text file) ≡ Less) → IsFirst o seen
         → All (λ g. same_file log_file g ≡ false → slice_cmp nat_cmp (file_text g) (file_text f) ≡ Less → ⊥) seen
     earlier None less all = All-weaker (λ (g : FileName). same_file log_file g ≡ true) (λ (g : FileName). same_file log_file g ≡ false → slice_cmp nat_cmp (file_text g) (file_text f) ≡ Less → ⊥)
         (λ g log o l. differ log o) seen all
-    earlier (Some file) less all = All-weaker (λ (g : FileName). same_file log_file g ≡ false → slice_cmp nat_cmp (file_text g) text ≡ Less → ⊥)
+    earlier (Some file) less all = All-weaker (λ (g : FileName). same_file log_file g ≡ false → slice_cmp nat_cmp (file_text g) (file_text file) ≡ Less → ⊥)
         (λ (g : FileName). same_file log_file g ≡ false → slice_cmp nat_cmp (file_text g) (file_text f) ≡ Less → ⊥)
-        (λ g none o l. none o (nat_list_cmp_total.trans (file_text g) (file_text f) text l (less file refl))) seen all.least
+        (λ g none o l. none o (nat_list_cmp_total.trans (file_text g) (file_text f) (file_text file) l (less file refl))) seen all.least
 
 -- one where it is so
 abbrev one_if : Bool → ℕ
@@ -140,22 +137,21 @@ listed folder names f lists form there = by (list_any (same_file f) names) refl
         let one : count_by (same_file f) names ≡ 1 = lists f form ∙ ap one_if there in absurd (omega (arith, zero', one))
 
 -- no other file is there
-none_other : (folder : Folder) (names : List FileName) (text : List ℕ) → Lists folder names → IsFirst None text names → IsLogAlone folder
-none_other folder names text lists first f form other = by (folder f) refl
+none_other : (folder : Folder) (names : List FileName) → Lists folder names → IsFirst None names → IsLogAlone folder
+none_other folder names lists first f form other = by (folder f) refl
   where
     by : (o : Option (List (List ℕ))) → folder f ≡ o → folder f ≡ None
     by None is = is
     by (Some pages) is = absurd (differ (of_seen (λ g. same_file log_file g ≡ true) f names first (listed folder names f lists form (ap is_some is))) other)
 
 -- this one is the first other that is there
-first_there : (folder : Folder) (names : List FileName) (file : FileName) (text : List ℕ) → Lists folder names → IsFirst (Some file) text names → IsFirstOther file folder
-first_there folder names file text lists first = record {
+first_there : (folder : Folder) (names : List FileName) (file : FileName) → Lists folder names → IsFirst (Some file) names → IsFirstOther file folder
+first_there folder names file lists first = record {
   form = first.form;
   other = first.other;
   there = by (folder file) refl;
   first = λ f form other there less.
-      of_seen (λ g. same_file log_file g ≡ false → slice_cmp nat_cmp (file_text g) text ≡ Less → ⊥) f names first.least (listed folder names f lists form (some_of (folder f) there)) other
-      (ap (slice_cmp nat_cmp (file_text f)) first.text_is ∙ less);
+      of_seen (λ g. same_file log_file g ≡ false → slice_cmp nat_cmp (file_text g) (file_text file) ≡ Less → ⊥) f names first.least (listed folder names f lists form (some_of (folder f) there)) other less;
 }
   where
     some_of : (o : Option (List (List ℕ))) → IsSome o → is_some o ≡ true
@@ -169,7 +165,7 @@ first_there folder names file text lists first = record {
     by (Some pages) is = subst (λ (o : Option (List (List ℕ))). IsSome o) (sym is) (search rules)
 
 -- what the listed files tell of the folder
-pub found_of : (folder : Folder) (names : List FileName) (first : Option FileName) (text : List ℕ) → Lists folder names → IsFirst first text names
+pub found_of : (folder : Folder) (names : List FileName) (first : Option FileName) → Lists folder names → IsFirst first names
     → MatchOption first (IsLogAlone folder) (λ file. IsFirstOther file folder)
-found_of folder names None text lists first = none_other folder names text lists first
-found_of folder names (Some file) text lists first = first_there folder names file text lists first
+found_of folder names None lists first = none_other folder names lists first
+found_of folder names (Some file) lists first = first_there folder names file lists first

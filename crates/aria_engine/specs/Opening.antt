@@ -22,18 +22,17 @@ use Rattle.aria_engine.specs.declared.store.Store.{Store}
 use Rattle.aria_engine.specs.Holds.{EachHolds, ReadsAs, IsLineDamage}
 use Rattle.aria_engine.specs.Store.{tables_of, IsSilent, StillHolds, OpensAs}
 
--- of the files seen this one isn't the log's, and no other but the log's comes before its name
-pub record IsLeast (file : FileName) (text : List ℕ) (seen : List FileName) : Type 0 where
+-- of the files seen this one isn't the log's, and no other but the log's comes before it by the bytes of its name
+pub record IsLeast (file : FileName) (seen : List FileName) : Type 0 where
   pub form : IsFileName file
   pub among : list_any (same_file file) seen ≡ true
   pub other : same_file log_file file ≡ false
-  pub text_is : text ≡ file_text file
-  pub least : All (λ f. same_file log_file f ≡ false → slice_cmp nat_cmp (file_text f) text ≡ Less → ⊥) seen
+  pub least : All (λ f. same_file log_file f ≡ false → slice_cmp nat_cmp (file_text f) (file_text file) ≡ Less → ⊥) seen
 
 -- the first of the files seen other than the log's, if there is one
-abbrev pub IsFirst : Option FileName → List ℕ → List FileName → Type 0
-IsFirst None text seen = All (λ f. same_file log_file f ≡ true) seen
-IsFirst (Some file) text seen = IsLeast file text seen
+abbrev pub IsFirst : Option FileName → List FileName → Type 0
+IsFirst None seen = All (λ f. same_file log_file f ≡ true) seen
+IsFirst (Some file) seen = IsLeast file seen
 
 -- a line was executed anew: whether it changed the tables, and what it left then
 pub record Redoes (line : List ℕ) (old new : World) (changed : Bool) : Type 0 where

@@ -3,4 +3,4 @@ use Rattle.aria_engine.specs.Opening.{IsFirst}
 use Rattle.aria_engine.proofs.others.first_other.Given as goal
 
 abbrev pub invariant-loop-file : goal.invariant-loop-file
-invariant-loop-file l = IsFirst l.first.file l.first.text (take l.file-index l.files)
+invariant-loop-file l = IsFirst l.first (take l.file-index l.files)
