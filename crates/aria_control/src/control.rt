@@ -7,7 +7,7 @@ ghost use Rattle.aria_control.specs.declared.found.Found.TheVariants.{Kept};
 ghost use Rattle.aria_control.specs.Found.{control_file, Finds};
 ghost use Rattle.aria_control.specs.ControlPage.{magic, control_page, named_by, HasMagic, IsStorable};
 
-use aria_page::{LSN_BYTES, Lsn, Page, SUM_BYTES, bytes_from, lsn_of};
+use aria_page::{LSN_BYTES, Lsn, Page, SUM_BYTES, bytes_from, lsn_of, same_bytes};
 
 /// What the control file names. Each log sequence number has a file number below 2^24.
 #[derive(Clone, Copy, Debug, PartialEq, Eq)]
@@ -34,12 +34,6 @@ fn front(bytes: &[u8], count: usize) -> &[u8]
     ensures { result.now ≡ take count bytes.now }
 {
     &bytes[..count]
-}
-
-pub(crate) fn same_bytes(a: &[u8], b: &[u8]) -> bool
-    ensures { IsTrue result ↔ (a.now ≡ b.now) }
-{
-    a == b
 }
 
 /// The page that names these two, and no others.

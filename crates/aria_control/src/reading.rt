@@ -9,10 +9,10 @@ ghost use Rattle.aria_host.specs.Calls.{HasDiskCause, Narrows, Unchanged};
 ghost use Rattle.aria_control.specs.declared.found.Found.TheVariants.{Kept};
 ghost use Rattle.aria_control.specs.Found.{control_file, is_control, whole_pages, HasPages, BeginsWith, IsBlank, IsFirst, OnPage, OnBlank, Answers, Fails, FitsLength, HasReadCause, IsFoundStorable};
 
-use crate::control::{Control, has_magic, named_by, same_bytes};
+use crate::control::{Control, has_magic, named_by};
 use crate::found::Found;
 use aria_host::{Extent, Fault, FileName, Host};
-use aria_page::Page;
+use aria_page::{Page, same_bytes};
 use std::alloc::Global;
 
 // How many pages a file has: none where it is absent, and `None` where its length is no multiple of a page's.

@@ -183,7 +183,7 @@ fn write_both(
     fails: u64,
 ) -> Result<MemHost, Fault> {
     let mut host = MemHost::new(alloc);
-    host.reserve(8, 0)?;
+    host.reserve(4, 0)?;
     host.set_page(&CONTROL, 0, &Page::zero())?;
     host.plan_fault(fails)?;
     write(&mut host, first)?;

@@ -29,8 +29,14 @@ pub enum FileName {
     NewRows(Name),
 }
 
-/// The most bytes of a file's name: a table's name has at most 64, and the end behind it 4.
-pub(crate) const TEXT_BYTES: usize = 68;
+/// The bytes of the end of a table's file.
+const END_BYTES: usize = 4;
+
+/// The most bytes of a file's name: a table's name has at most 64, and the end stands behind it.
+pub(crate) const TEXT_BYTES: usize = 64 + END_BYTES;
+
+/// The digits of a log file's number.
+const DIGITS: usize = 8;
 
 /// Log files are numbered below this.
 const MAX_LOGS: u32 = 1 << 24;
@@ -55,7 +61,7 @@ fn digit(number: u32, unit: u32) -> u8
     b'0' + (number / unit % 10) as u8
 }
 
-fn eight_digits(number: u32) -> [u8; 8]
+fn eight_digits(number: u32) -> [u8; DIGITS]
     ensures { result ≡ eight_digits number }
 {
     [
@@ -100,7 +106,7 @@ fn value(digit: u8) -> u32
 }
 
 // What eight digits count.
-fn number_of(digits: &[u8; 8]) -> u32
+fn number_of(digits: &[u8; DIGITS]) -> u32
     ensures { (number : ℕ) → number < 2 ^ 24 → eight_digits number ≡ digits.now → result ≡ number }
 {
     let [a, b, c, d, e, f, g, h] = digits;
@@ -113,7 +119,7 @@ fn number_of(digits: &[u8; 8]) -> u32
 fn log_number(digits: &[u8]) -> Option<u32>
     ensures { MatchOption result ((number : ℕ) → number < 2 ^ 24 → eight_digits number ≢ digits.now) (λ number. (number < 2 ^ 24) × (eight_digits number ≡ digits.now)) }
 {
-    let digits = digits.as_array::<8>()?;
+    let digits = digits.as_array::<DIGITS>()?;
     let number = number_of(digits);
     if number >= MAX_LOGS {
         return None;
@@ -157,7 +163,7 @@ fn with_end(name: Name, end: &[u8]) -> Option<FileName>
 fn read_table(text: &[u8]) -> Option<FileName>
     ensures { MatchOption result (NamesNoTable text.now) (λ file. IsNamed text.now file) }
 {
-    let (front, end) = text.split_last_chunk::<4>()?;
+    let (front, end) = text.split_last_chunk::<END_BYTES>()?;
     with_end(Name::read(front)?, end)
 }
 

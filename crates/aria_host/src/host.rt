@@ -16,10 +16,13 @@ pub enum Stream {
     Err,
 }
 
+/// The most pages that a file may have.
+pub const MAX_PAGES: u64 = 1 << 31;
+
 /// What a look at a file finds.
 #[derive(Clone, Copy, Debug)]
 pub struct Extent {
-    /// The number of whole pages, at most 2^31.
+    /// The number of whole pages, at most `MAX_PAGES`.
     pub pages: u32,
     /// The length is no multiple of a page's.
     pub odd: bool,

@@ -19,7 +19,7 @@ mod source;
 
 pub use fault::Fault;
 pub use file_name::FileName;
-pub use host::{Extent, Host, Stream};
+pub use host::{Extent, Host, MAX_PAGES, Stream};
 pub use memory::{Fate, MemHost, MemSource};
 pub use real::{DirHost, StdSource};
 pub use source::Source;

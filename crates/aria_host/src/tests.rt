@@ -9,7 +9,7 @@ use std::test::Fail;
 #[test]
 fn with_room_a_tell_is_told(rt: HostRuntime) -> Result<(), Fail> {
     let mut host = MemHost::new(rt.alloc());
-    host.reserve(3, 16)?;
+    host.reserve(3, 14)?;
     assert!(rt; matches!(host.tell(Stream::Out, b"ok\n"), Ok(())));
     assert!(rt; matches!(host.tell(Stream::Err, b"aria: disk\n"), Ok(())));
     assert!(rt; matches!(host.tell(Stream::Out, b""), Ok(())));
@@ -22,7 +22,7 @@ fn with_room_a_tell_is_told(rt: HostRuntime) -> Result<(), Fail> {
 #[test]
 fn a_tell_fails_where_it_is_planned(rt: HostRuntime) -> Result<(), Fail> {
     let mut host = MemHost::new(rt.alloc());
-    host.reserve(3, 16)?;
+    host.reserve(3, 11)?;
     host.plan_fault(1)?;
     host.tell(Stream::Out, b"one")?;
     assert!(rt; matches!(host.tell(Stream::Out, b"two"), Err(Fault::Tell)));
@@ -57,9 +57,12 @@ fn the_standard_streams_take_a_line(rt: HostRuntime) -> Result<(), Fail> {
 
 const JOURNAL: FileName = FileName::Log(1);
 
+// The place of a page by which the tests tell it from others.
+const MARK_AT: usize = 100;
+
 fn page_of(byte: u8) -> Page {
     let mut page = Page::zero();
-    page.put(100, &[byte]);
+    page.put(MARK_AT, &[byte]);
     page
 }
 
@@ -73,9 +76,9 @@ fn use_files<H: Host>(host: &mut H, alloc: Global) -> Result<bool, Fault>
     host.sync(&JOURNAL)?;
     let grown = host.look(&JOURNAL)?;
     host.read_page(&JOURNAL, 2, &mut read)?;
-    let kept = read.bytes()[100] == 7;
+    let kept = read.bytes()[MARK_AT] == 7;
     host.read_page(&JOURNAL, 1, &mut read)?;
-    let blank = read.bytes()[100] == 0;
+    let blank = read.bytes()[MARK_AT] == 0;
     host.cut(&JOURNAL, 1)?;
     let cut = host.look(&JOURNAL)?;
     let names = host.names(alloc)?;
@@ -136,7 +139,7 @@ fn read_many<H: Host>(host: &mut H) -> Result<bool, Fault>
     let mut kept = true;
     for number in FIRST..=LAST {
         host.read_page(&FileName::Log(number), 0, &mut page)?;
-        kept = kept && page.bytes()[100] == number as u8;
+        kept = kept && page.bytes()[MARK_AT] == number as u8;
     }
     Ok(kept)
 }
@@ -161,16 +164,16 @@ fn more_files_are_kept_than_stay_open(rt: HostRuntime) -> Result<(), Fail> {
     Ok(())
 }
 
-// What stands at the marked place of a page of the journal.
+// The mark of a page of the journal.
 fn mark(host: &MemHost, page: u32) -> Option<u8> {
-    Some(host.page(&JOURNAL, page)?.bytes()[100])
+    Some(host.page(&JOURNAL, page)?.bytes()[MARK_AT])
 }
 
 #[test]
 fn a_crash_keeps_loses_and_tears_as_the_fates_say(rt: HostRuntime) -> Result<(), Fail> {
     let alloc = rt.alloc();
     let mut host = MemHost::new(alloc);
-    host.reserve(16, 0)?;
+    host.reserve(6, 0)?;
     host.create(&JOURNAL)?;
     host.write_page(&JOURNAL, 0, &page_of(1))?;
     host.sync(&JOURNAL)?;
@@ -193,7 +196,7 @@ fn a_crash_keeps_loses_and_tears_as_the_fates_say(rt: HostRuntime) -> Result<(),
 fn missing_fates_are_lost_and_a_stop_ends_with_the_crash(rt: HostRuntime) -> Result<(), Fail> {
     let alloc = rt.alloc();
     let mut host = MemHost::new(alloc);
-    host.reserve(16, 8)?;
+    host.reserve(4, 6)?;
     host.set_page(&JOURNAL, 1, &page_of(5))?;
     host.write_page(&JOURNAL, 0, &page_of(6))?;
     host.stop_at(1);

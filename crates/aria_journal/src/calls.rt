@@ -5,10 +5,11 @@ ghost use Rattle.aria_host.specs.Calls.{HasDiskCause};
 ghost use Rattle.aria_journal.specs.Frames.{IsFrame};
 ghost use Rattle.aria_journal.specs.Log.{place, IsLog, IsRunning, LogKeeps};
 
+use crate::frame::LENGTH_BYTES;
 use crate::log::Log;
 use crate::log_page::{FILE, FILE_BODY_BYTES};
 use aria_host::{Fault, FileName, Host};
-use aria_page::u32_bytes;
+use aria_page::{LOG_BODY_BYTES, u32_bytes};
 
 impl Log {
     /// Appends a frame of 1 to 1048576 bytes. It is on the disk after the next force.
@@ -65,8 +66,8 @@ impl Log {
     pub fn has_room(&self, frame: &[u8]) -> bool
         ensures { IsTrue result ↔ (place self.now + 4 + length frame.now < 8176 * 2 ^ 31) }
     {
-        let place = 8176 * u64::from(self.number) + u64::from(self.used);
-        (frame.len() as u64) < FILE_BODY_BYTES.saturating_sub(place + 4)
+        let place = LOG_BODY_BYTES as u64 * u64::from(self.number) + u64::from(self.used);
+        (frame.len() as u64) < FILE_BODY_BYTES.saturating_sub(place + LENGTH_BYTES)
     }
 
     /// How many pages the file has once all frames are forced.

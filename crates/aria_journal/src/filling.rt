@@ -6,9 +6,9 @@ ghost use Rattle.aria_journal.specs.Runs.{begins_next};
 ghost use Rattle.aria_journal.specs.Log.{log_file, place, Fills, IsAt, IsWriting, Wrote, IsImage, Adds, LogMoments};
 
 use crate::log::Log;
-use crate::log_page::{BODY_AT, BODY_BYTES, FILE, seal};
+use crate::log_page::{FILE, seal};
 use aria_host::{Fault, FileName, Host};
-use aria_page::Page;
+use aria_page::{LOG_BODY_AT, LOG_BODY_BYTES, Page};
 use std::cmp::min;
 
 impl Log {
@@ -35,8 +35,8 @@ impl Log {
         ensures filled { (number : ℕ) (begins : Bool) (held : List ℕ) → Fills self.old number begins held → Fills self.new number begins (held ++ take result bytes.now) }
     {
         let used = self.used as usize;
-        let count = min(BODY_BYTES - used, bytes.len());
-        self.page.put(BODY_AT + used, &bytes[..count]);
+        let count = min(LOG_BODY_BYTES - used, bytes.len());
+        self.page.put(LOG_BODY_AT + used, &bytes[..count]);
         self.used += count as u16;
         count
     }
@@ -68,7 +68,7 @@ impl Log {
         ensures ok { OnOk result ((place self.new ≡ place self.old) × (self.new.used < 8176)) }
         ensures cause { HasDiskCause (H.state host.old) (H.state host.new) result }
     {
-        if self.used == BODY_BYTES as u16 {
+        if self.used == LOG_BODY_BYTES as u16 {
             return self.write(host);
         }
         Ok(())

@@ -7,10 +7,9 @@ ghost use Rattle.aria_journal.specs.Front.{front};
 ghost use Rattle.aria_journal.specs.Places.{EndsBefore, pages_from};
 ghost use Rattle.aria_journal.specs.Collected.{all_frames, all_pages};
 
-use crate::log_page::BODY_BYTES;
 use crate::opened::Frame;
 use crate::reading::{push_frames, read_page_of};
-use aria_page::{Bytes, List, Page};
+use aria_page::{Bytes, LOG_BODY_BYTES, List, Page};
 use std::alloc::{AllocError, Global};
 
 /// What was read of the valid front: the frames of the runs before; of the run that goes on its first page, its used
@@ -88,7 +87,7 @@ impl Reader {
             self.first = number;
         }
         self.run.extend_from_slice(bytes)?;
-        self.full = bytes.len() == BODY_BYTES;
+        self.full = bytes.len() == LOG_BODY_BYTES;
         Ok(())
     }
 

@@ -8,16 +8,12 @@ ghost use Rattle.aria_journal.specs.LogPage.{IsLogPage, read_log_page};
 ghost use Rattle.aria_journal.specs.Places.{EndsBefore, pages_from};
 
 use crate::frame::MAX_FRAME_BYTES;
-use crate::log_page::{BODY_AT, BODY_BYTES, seal};
+use crate::log_page::{BEGINS_AT, USED_AT, seal};
 use crate::opened::Frame;
-use aria_page::{Bytes, List, Page, bytes_at, u16_of, u32_at};
+use aria_page::{
+    Bytes, LOG_BODY_AT, LOG_BODY_BYTES, List, Page, bytes_at, same_bytes, u16_of, u32_at,
+};
 use std::alloc::{AllocError, Global};
-
-fn same_bytes(a: &[u8], b: &[u8]) -> bool
-    ensures { IsTrue result ↔ (a.now ≡ b.now) }
-{
-    a == b
-}
 
 // Whether the page is the one that these bytes are written as.
 fn is_page_of(page: &Page, number: u32, begins: bool, bytes: &[u8]) -> bool
@@ -26,7 +22,7 @@ fn is_page_of(page: &Page, number: u32, begins: bool, bytes: &[u8]) -> bool
     ensures { IsTrue result ↔ IsLogPage number begins bytes.now page.now }
 {
     let mut again = Page::zero();
-    again.put(BODY_AT, bytes);
+    again.put(LOG_BODY_AT, bytes);
     seal(&mut again, number, begins, bytes.len() as u16);
     same_bytes(again.bytes(), page.bytes())
 }
@@ -37,10 +33,10 @@ pub(crate) fn read_page_of(number: u32, page: &Page) -> Option<(bool, &[u8])>
     ensures fits { IfSome result (λ x. length x.1.now ≤ 8176) }
 {
     let bytes = page.bytes();
-    let used = u16_of(&bytes[14..]) as usize;
-    if 1 <= used && used <= BODY_BYTES {
-        let begins = bytes[12] == 1;
-        let body = &bytes[BODY_AT..BODY_AT + used];
+    let used = u16_of(&bytes[USED_AT..]) as usize;
+    if 1 <= used && used <= LOG_BODY_BYTES {
+        let begins = bytes[BEGINS_AT] == 1;
+        let body = &bytes[LOG_BODY_AT..LOG_BODY_AT + used];
         if is_page_of(page, number, begins, body) {
             return Some((begins, body));
         }
@@ -74,7 +70,7 @@ fn page_of(first: u32, byte: usize) -> u32
     requires within { 8176 * first + byte < 8176 * 2 ^ 32 }
     ensures { result ≡ first + byte / 8176 }
 {
-    first + (byte / BODY_BYTES) as u32
+    first + (byte / LOG_BODY_BYTES) as u32
 }
 
 /// Adds all whole frames in front of these bytes of a run, with the pages in which they begin. The run's first page has

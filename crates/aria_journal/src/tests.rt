@@ -239,7 +239,7 @@ fn found_without(alloc: Global, page: u32) -> Result<Result<usize, u32>, Fault>
 }
 
 #[test]
-fn a_page_before_a_run_is_missed(rt: HostRuntime) -> Result<(), Fail> {
+fn a_page_lost_before_a_run_is_damage(rt: HostRuntime) -> Result<(), Fail> {
     let _file = FILE;
     let alloc = rt.alloc();
     assert!(rt; matches!(found_without(alloc, 0)?, Err(0)));

@@ -8,16 +8,13 @@ ghost use Rattle.aria_host.specs.Extent.{IsExtent, IsTooLong, IsFound};
 ghost use Rattle.aria_host.specs.System.{Call, IsRefused, Does, DoesWith};
 ghost use Rattle.aria_host.specs.System.Call.{Looked, Made, Removed, Listed, SyncedFolder, Read, Wrote, Cut, SyncedData, SyncedWhole, Told};
 
-use crate::real::open_files::{OpenFiles, PAGE_BYTES};
+use crate::real::open_files::OpenFiles;
 use crate::real::os::Os;
 use crate::real::system::System;
-use crate::{Extent, Fault, FileName, Host, Stream};
-use aria_page::{List, Page};
+use crate::{Extent, Fault, FileName, Host, MAX_PAGES, Stream};
+use aria_page::{List, PAGE_BYTES, Page};
 use std::alloc::{AllocError, Global};
 use std::io;
-
-/// The most pages that a file may have.
-const MAX_PAGES: u64 = 1 << 31;
 
 /// The current folder, and the standard streams of output. It tells no contents: that the system keeps what `Host`
 /// promises is trusted. Links, folders and devices under a file's name are faults.
@@ -32,13 +29,13 @@ pub struct DirHost<S: System + Drop = Os> {
 fn extent_of(bytes: u64) -> Option<Extent>
     ensures { MatchOption result (IsTooLong bytes) (IsExtent bytes) }
 {
-    let pages = bytes / PAGE_BYTES;
+    let pages = bytes / PAGE_BYTES as u64;
     if pages > MAX_PAGES {
         return None;
     }
     Some(Extent {
         pages: pages as u32,
-        odd: bytes % PAGE_BYTES != 0,
+        odd: bytes % PAGE_BYTES as u64 != 0,
     })
 }
 

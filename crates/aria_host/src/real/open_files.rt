@@ -8,12 +8,9 @@ ghost use Rattle.aria_host.specs.System.Call.{Looked, Made, Removed, Listed, Syn
 use crate::real::open_table::OpenTable;
 use crate::real::system::System;
 use crate::{FileName, Stream};
-use aria_page::{Bytes, List, Page};
+use aria_page::{Bytes, List, PAGE_BYTES, Page};
 use std::alloc::{AllocError, Global};
 use std::io;
-
-/// The size of a page, in bytes.
-pub(crate) const PAGE_BYTES: u64 = 8192;
 
 /// The files of a folder, by the system's calls. Some of them stay open between calls.
 ///
@@ -28,7 +25,7 @@ pub(crate) struct OpenFiles<S: System + Drop> {
 fn offset_of(page: u32) -> u64
     ensures { result ≡ 8192 * page }
 {
-    u64::from(page) * PAGE_BYTES
+    u64::from(page) * PAGE_BYTES as u64
 }
 
 // Puts the bytes in the place of all of a page.
@@ -110,7 +107,7 @@ impl<S: System + Drop> OpenFiles<S> {
     ) -> io::Result<()>
         ensures { IsTrue S.tells → DoesWith name.now result (λ _. Read name.now (8192 * page) into.new) (S.calls self.old.system) (S.calls self.new.system) }
     {
-        let mut bytes = [0u8; 8192];
+        let mut bytes = [0; PAGE_BYTES];
         let place = self.place(name)?;
         self.system
             .read_at(self.table.at(place, name), offset_of(page), &mut bytes)?;

@@ -12,6 +12,9 @@ use std::{fs, io, str};
 /// The current folder.
 const FOLDER: &str = ".";
 
+/// Who may use a file that is made: its owner reads and writes it, and all others read it.
+const MODE: u32 = 0o644;
+
 /// An open file, with the name that it was opened by.
 #[derive(Drop)]
 pub struct Handle {
@@ -87,7 +90,7 @@ impl System for Os {
             .read(true)
             .write(true)
             .create_new(true)
-            .mode(0o644)
+            .mode(MODE)
             .open(&self.rt, path_of(text.as_slice())?)?;
         Ok(Handle { name: *name, file })
     }
