@@ -1,5 +1,5 @@
 -- What a folder's control file is.
-use Rattle.std.specs.Prelude.{◌≡◌, ◌≢◌, ◌⊎◌, ◌≤◌, ⊤, ℕ, Bool, true, false, if◌then◌else◌, IsTrue, IsSome, Option, None, Some, List, [], ◌∷◌, length, Result, Ok, Err, IfErr, IsErrOf}
+use Rattle.std.specs.Prelude.{◌≡◌, ◌⊎◌, ◌≤◌, ⊤, ℕ, Bool, true, false, if◌then◌else◌, IsSome, Option, None, Some, List, [], ◌∷◌, length, Result, Ok, Err, IfErr, IsErrOf}
 use Rattle.std.specs.Option.{option_map}
 use Rattle.aria_page.specs.Page.{zero_page, Sums}
 use Rattle.aria_host.specs.declared.fault.Fault.{Fault}
