@@ -11,7 +11,7 @@ pub mod Appending
 pub mod Images
 pub mod Logs
 pub mod Syncing
-pub mod Looking
+pub mod Unchanged
 pub mod Starting
 pub mod Cutting
 pub mod Blank
