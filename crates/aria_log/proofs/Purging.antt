@@ -1,6 +1,6 @@
 -- Log files are removed, the lowest first.
-use Rattle.std.proofs.Common.{◌≡◌, ◌==◌, inl, inr, ⊎_elim, ℕ, zero, suc, ◌+◌, ◌^◌, ◌<◌, ◌≤◌, min, Bool, true, false, cond, IsTrue, Option, None, Some, is_some, List, [], ◌∷◌, ◌++◌, take, count_by, refl, sym, ◌∙◌, ap, subst, arith}
-use Rattle.std.specs.Prelude.{nat_lt}
+use Rattle.std.proofs.Common.{◌≡◌, ◌==◌, inl, inr, ℕ, zero, suc, ◌+◌, ◌^◌, ◌<◌, ◌≤◌, min, Bool, true, false, cond, IsTrue, Option, None, Some, is_some, List, [], ◌∷◌, ◌++◌, take, count_by, refl, sym, ◌∙◌, ap, subst, arith, rules}
+use Rattle.std.specs.Prelude.{IsSome, nat_le, nat_lt}
 use Rattle.std.proofs.lemmas.Bool.{cases_Bool, cases_lt, eqb-true, eq-eqb}
 use Rattle.std.proofs.lemmas.Bool.Decides.{nat_tests}
 use Rattle.std.proofs.lemmas.List.{append-nil}
@@ -10,10 +10,10 @@ use Rattle.aria_host.specs.declared.file_name.FileName.TheVariants.{Control, Log
 use Rattle.aria_host.specs.Folder.{Folder, IsFileName, same_file, with_file}
 use Rattle.aria_host.specs.State.{State, LeavesOnly}
 use Rattle.aria_host.specs.Steps.{MayMake}
-use Rattle.aria_host.specs.Calls.{Lists, HaveNames, Narrows, Unchanged, TellsNothing, Removes}
+use Rattle.aria_host.specs.Calls.{Lists, HaveNames, Narrows, Removes}
 use Rattle.aria_host.proofs.Files.{with_file-same, with_file-other}
 use Rattle.aria_host.proofs.Moments.{started, goes_on, joined, weakened}
-use Rattle.aria_log.specs.Purge.{is_log_below, IsWithout, IsPurged, AtPurge, Purges, number_or, HasNoneBelow, IsLowest, RemovesIf}
+use Rattle.aria_log.specs.Purge.{is_log_below, IsWithout, IsPurged, AtPurge, Purges, number_from, IsLowest}
 use Rattle.aria_log.proofs.Writing.{OnlyNow}
 
 -- ---- names
@@ -22,54 +22,76 @@ use Rattle.aria_log.proofs.Writing.{OnlyNow}
 count_push : (f g : FileName) (names : List FileName) → count_by (same_file f) (names ++ g ∷ []) ≡ count_by (same_file f) names + cond (same_file f g) 1 0
 count_push f g names = sum_by-append (λ n. cond (same_file f n) 1 0) names (g ∷ []) ∙ omega arith
 
--- a file with a higher number is another one
-higher_other : (n end : ℕ) (file : FileName) → n < number_or end file → same_file (Log n) file ≡ false
-higher_other n end Control less = refl
-higher_other n end (Log m) less = grind arith
-higher_other n end (Keys name) less = refl
-higher_other n end (Rows name) less = refl
-higher_other n end (NewKeys name) less = refl
-higher_other n end (NewRows name) less = refl
+-- a file with a higher number, or one below the first, is another one
+higher_other : (n first end : ℕ) (file : FileName) → first ≤ n → n < end → n < number_from first end file → same_file (Log n) file ≡ false
+higher_other n first end Control from low less = refl
+higher_other n first end (Keys name) from low less = refl
+higher_other n first end (Rows name) from low less = refl
+higher_other n first end (NewKeys name) from low less = refl
+higher_other n first end (NewRows name) from low less = refl
+higher_other n first end (Log m) from low less = elim (cases_Bool (nat_le first m)) [
+  | inl inside ↦ let e : number_from first end (Log m) ≡ m = ap (λ (b : Bool). cond b m end) inside in grind (arith, e)
+  | inr below ↦ grind (arith, nat_tests, below)
+]
 
 -- it is a log file, unless it stands for the end
-number_is : (end : ℕ) (file : FileName) → number_or end file < end → same_file (Log (number_or end file)) file ≡ true
-number_is end Control less = absurd (omega (arith, less))
-number_is end (Log m) less = eq-eqb m m refl
-number_is end (Keys name) less = absurd (omega (arith, less))
-number_is end (Rows name) less = absurd (omega (arith, less))
-number_is end (NewKeys name) less = absurd (omega (arith, less))
-number_is end (NewRows name) less = absurd (omega (arith, less))
+number_is : (first end : ℕ) (file : FileName) → number_from first end file < end → same_file (Log (number_from first end file)) file ≡ true
+number_is first end Control less = absurd (omega (arith, less))
+number_is first end (Keys name) less = absurd (omega (arith, less))
+number_is first end (Rows name) less = absurd (omega (arith, less))
+number_is first end (NewKeys name) less = absurd (omega (arith, less))
+number_is first end (NewRows name) less = absurd (omega (arith, less))
+number_is first end (Log m) less = elim (cases_Bool (nat_le first m)) [
+  | inl inside ↦ eq-eqb (number_from first end (Log m)) m (ap (λ (b : Bool). cond b m end) inside)
+  | inr below ↦ absurd (let e : number_from first end (Log m) ≡ end = ap (λ (b : Bool). cond b m end) below in omega (arith, e, less))
+]
 
-pub lowest_none : (end : ℕ) → IsLowest [] end end
-lowest_none end = record { upto = omega arith; none = λ n less. refl; here = inl refl }
+-- it isn't below the first
+number_above : (first end : ℕ) (file : FileName) → first ≤ end → first ≤ number_from first end file
+number_above first end Control upto = upto
+number_above first end (Keys name) upto = upto
+number_above first end (Rows name) upto = upto
+number_above first end (NewKeys name) upto = upto
+number_above first end (NewRows name) upto = upto
+number_above first end (Log m) upto = elim (cases_Bool (nat_le first m)) [
+  | inl inside ↦ let e : number_from first end (Log m) ≡ m = ap (λ (b : Bool). cond b m end) inside in grind (arith, nat_tests, e, inside)
+  | inr below ↦ let e : number_from first end (Log m) ≡ end = ap (λ (b : Bool). cond b m end) below in omega (arith, e, upto)
+]
 
-pub lowest_more : (names : List FileName) (end lowest : ℕ) (file : FileName) → IsLowest names end lowest → IsLowest (names ++ file ∷ []) end (min lowest (number_or end file))
-lowest_more names end lowest file is = record {
-  upto = omega (arith, is.upto);
-  none = λ n less.
-      count_push (Log n) file names ∙ ap (λ (k : ℕ). k + cond (same_file (Log n) file) 1 0) (is.none n (omega (arith, less)))
-      ∙ ap (λ (b : Bool). 0 + cond b 1 0) (higher_other n end file (omega (arith, less)));
-  here = elim (cases_lt (number_or end file) lowest) [
-    | inl less ↦
-        let this : min lowest (number_or end file) ≡ number_or end file = omega (arith, less) in
-        inr (subst (λ (k : ℕ). 1 ≤ count_by (same_file (Log k)) (names ++ file ∷ [])) (sym this)
-        (omega (arith, count_push (Log (number_or end file)) file names, ap {B = ℕ} (λ (b : Bool). cond b 1 0) (number_is end file (omega (arith, less, is.upto))))))
-    | inr past ↦
-        let this : min lowest (number_or end file) ≡ lowest = omega (arith, past) in
-        elim is.here [
-          | inl last ↦ inl (this ∙ last)
-          | inr some ↦ inr (subst (λ (k : ℕ). 1 ≤ count_by (same_file (Log k)) (names ++ file ∷ [])) (sym this) (omega (arith, count_push (Log lowest) file names, some)))
-        ]
-  ];
-}
+pub lowest_none : (first end : ℕ) → first ≤ end → IsLowest [] first end end
+lowest_none first end upto = record { from = upto; upto = omega arith; none = λ n from less. refl; here = inl refl }
 
--- no file is there where its name isn't listed
-none_listed : (o : Option (List (List ℕ))) → ◌≡◌ {A = ℕ} 0 (cond (is_some o) 1 0) → o ≡ None
-none_listed None e = refl
-none_listed (Some pages) e = absurd (omega (arith, e))
+pub lowest_more : (names : List FileName) (first end lowest : ℕ) (file : FileName) → IsLowest names first end lowest → IsLowest (names ++ file ∷ []) first end (min lowest (number_from first end file))
+lowest_more names first end lowest file is =
+    let this : ℕ = number_from first end file in
+    record {
+      from = omega (arith, is.from, number_above first end file (omega (arith, is.from, is.upto)));
+      upto = omega (arith, is.upto);
+      none = λ n from less.
+          count_push (Log n) file names ∙ ap (λ (k : ℕ). k + cond (same_file (Log n) file) 1 0) (is.none n from (omega (arith, less)))
+          ∙ ap (λ (b : Bool). 0 + cond b 1 0) (higher_other n first end file from (omega (arith, less, is.upto)) (omega (arith, less)));
+      here = elim (cases_lt this lowest) [
+        | inl less ↦
+            let chosen : min lowest this ≡ this = omega (arith, less) in
+            inr (subst (λ (k : ℕ). 1 ≤ count_by (same_file (Log k)) (names ++ file ∷ [])) (sym chosen)
+            (omega (arith, count_push (Log this) file names, ap {B = ℕ} (λ (b : Bool). cond b 1 0) (number_is first end file (omega (arith, less, is.upto))))))
+        | inr past ↦
+            let chosen : min lowest this ≡ lowest = omega (arith, past) in
+            elim is.here [
+              | inl last ↦ inl (chosen ∙ last)
+              | inr some ↦ inr (subst (λ (k : ℕ). 1 ≤ count_by (same_file (Log k)) (names ++ file ∷ [])) (sym chosen) (omega (arith, count_push (Log lowest) file names, some)))
+            ]
+      ];
+    }
 
-pub none_below : (folder : Folder) (names : List FileName) (end lowest : ℕ) → Lists folder names → IsLowest names end lowest → HasNoneBelow lowest folder
-none_below folder names end lowest lists is n less low = none_listed (folder (Log n)) (sym (is.none n less) ∙ lists (Log n) low)
+-- a file is there exactly where its name is listed
+none_listed : (o : Option (List (List ℕ))) (n : ℕ) → n ≡ 0 → n ≡ cond (is_some o) 1 0 → o ≡ None
+none_listed None n no_times e = refl
+none_listed (Some pages) n no_times e = absurd (omega (arith, e, no_times))
+
+some_listed : (o : Option (List (List ℕ))) (n : ℕ) → 1 ≤ n → n ≡ cond (is_some o) 1 0 → IsSome o
+some_listed None n some e = absurd (omega (arith, e, some))
+some_listed (Some pages) n some e = search rules
 
 -- ---- images
 
@@ -97,24 +119,23 @@ made_without low d c others below (Log n) form = elim (cases_Bool (nat_lt n low)
 without_none : (d : Folder) → IsWithout 0 d d
 without_none d = made_without 0 d d (λ f form past. refl) (λ n form less. absurd (omega (arith, less)))
 
--- no file is there below
-without_same : (low : ℕ) (d : Folder) → HasNoneBelow low d → IsWithout low d d
-without_same low d none = made_without low d d (λ f form past. refl) (λ n form less. none n less form)
+-- a file that isn't below a number isn't below a lower one
+not_lower : (low high : ℕ) (f : FileName) → low ≤ high → is_log_below high f ≡ false → is_log_below low f ≡ false
+not_lower low high Control le past = refl
+not_lower low high (Log n) le past = grind (arith, nat_tests, past)
+not_lower low high (Keys name) le past = refl
+not_lower low high (Rows name) le past = refl
+not_lower low high (NewKeys name) le past = refl
+not_lower low high (NewRows name) le past = refl
 
--- a file that isn't below the next number isn't below this one
 not_below : (low : ℕ) (f : FileName) → is_log_below (low + 1) f ≡ false → is_log_below low f ≡ false
-not_below low Control past = refl
-not_below low (Log n) past = grind (arith, nat_tests, past)
-not_below low (Keys name) past = refl
-not_below low (Rows name) past = refl
-not_below low (NewKeys name) past = refl
-not_below low (NewRows name) past = refl
+not_below low f past = not_lower low (low + 1) f (omega arith) past
 
--- the next file isn't there
-without_next : (low : ℕ) (d c : Folder) → IsWithout low d c → c (Log low) ≡ None → IsWithout (low + 1) d c
-without_next low d c is none = made_without (low + 1) d c (λ f form past. is f form ∙ ap (λ (b : Bool). cond b None (d f)) (not_below low f past)) (λ n form less. elim (cases_Bool (low == n)) [
-  | inl same ↦ ap (λ (k : ℕ). c (Log k)) (sym (eqb-true low n same)) ∙ none
-  | inr apart ↦ without_below low n d c is form (grind (arith, less, apart))
+-- the next files aren't there
+without_skip : (low high : ℕ) (d c : Folder) → low ≤ high → ((n : ℕ) → low ≤ n → n < high → d (Log n) ≡ None) → IsWithout low d c → IsWithout high d c
+without_skip low high d c le none is = made_without high d c (λ f form past. is f form ∙ ap (λ (b : Bool). cond b None (d f)) (not_lower low high f le past)) (λ n form less. elim (cases_lt n low) [
+  | inl below ↦ without_below low n d c is form below
+  | inr from ↦ without_from low n d c is form from ∙ none n from less
 ])
 
 -- it is another file than the one of this number
@@ -171,7 +192,7 @@ not_done true e finished = absurd (cc)
 not_done false e finished = absurd (cc)
 
 -- more files may be removed, but weren't
-pub purged_part : (low high : ℕ) (old new : State) (done failed : Bool) → low ≤ high → failed ≡ false → Purges low old new done → Purges high old new failed
+purged_part : (low high : ℕ) (old new : State) (done failed : Bool) → low ≤ high → failed ≡ false → Purges low old new done → Purges high old new failed
 purged_part low high old new done failed le is_failed is = record {
   folder = λ finished. absurd (not_done failed is_failed finished);
   part = (is.part.0, omega (arith, is.part.1, le), is.part.2);
@@ -187,54 +208,34 @@ absent : (o : Option (List (List ℕ))) → is_some o ≡ false → o ≡ None
 absent None e = refl
 absent (Some pages) e = absurd (cc)
 
--- before the first file is removed
-pub purged_none : (s : State) (low : ℕ) → OnlyNow s → HaveNames s → HasNoneBelow low s.folder → Purges low s s true
-purged_none s low only names none =
-    let image : (c : Folder) → s.may_leave c → IsWithout low c c =
-    λ c leaves. without_same low c (λ n less form. absent (c (Log n)) (names c leaves (Log n) form ∙ ap (λ (o : Option (List (List ℕ))). is_some o) (none n less form))) in
-    let purged : (c : Folder) → s.may_leave c → IsPurged low s c = λ c leaves. purged_at low low s c c leaves (omega arith) (image c leaves) in
-    record {
-      folder = λ done. without_same low s.folder none;
-      part = (low, omega arith, without_same low s.folder none);
-      durable = λ done c leaves. (c, leaves, image c leaves);
-      images = purged;
-      moments = started s (AtPurge low s) (λ c b left. let now = only c b left in (purged c now.0, now.1));
-      out = refl;
-      err = refl;
-    }
-
--- a look
-pub purged_look : (a b c : State) (low : ℕ) → Purges low a b true → Unchanged b c → Purges low a c true
-purged_look a b c low is same = record {
-  folder = λ done f form. ap (λ (x : Folder). x f) same.folder ∙ is.folder refl f form;
-  part = (is.part.0, is.part.1, λ f form. ap (λ (x : Folder). x f) same.folder ∙ is.part.2 f form);
-  durable = λ done d leaves. is.durable refl d (same.images.no_more d leaves);
-  images = λ d leaves. is.images d (same.images.no_more d leaves);
-  moments = goes_on a b c [] (AtPurge low a) is.moments same.tells.time (λ d n leaves. (is.images d (same.images.no_more d leaves), still_told a b n is.out));
-  out = same.tells.out ∙ is.out;
-  err = same.tells.err ∙ is.err;
+-- nothing was removed yet
+purged_none : (s : State) → OnlyNow s → Purges 0 s s true
+purged_none s only = record {
+  folder = λ done. without_none s.folder;
+  part = (0, omega arith, without_none s.folder);
+  durable = λ done c leaves. (c, leaves, without_none c);
+  images = λ c leaves. purged_at 0 0 s c c leaves (omega arith) (without_none c);
+  moments = started s (AtPurge 0 s) (λ c b left. let now = only c b left in (purged_at 0 0 s c c now.0 (omega arith) (without_none c), now.1));
+  out = refl;
+  err = refl;
 }
 
--- the next file isn't there
-pub purged_next : (a b : State) (low : ℕ) → HaveNames a → low < 2 ^ 24 → Purges low a b true → b.folder (Log low) ≡ None → Purges (low + 1) a b true
-purged_next a b low names form is none =
-    let le : low ≤ low + 1 = omega arith in
-    let was_none : a.folder (Log low) ≡ None = sym (without_from low low a.folder b.folder (is.folder refl) form (omega arith)) ∙ none in
-    record {
-      folder = λ done. without_next low a.folder b.folder (is.folder refl) none;
-      part = (low + 1, omega arith, without_next low a.folder b.folder (is.folder refl) none);
-      durable = λ done c leaves.
-          let (d, left, without) = is.durable refl c leaves in
-          let gone : d (Log low) ≡ None = absent (d (Log low)) (names d left (Log low) form ∙ ap (λ (o : Option (List (List ℕ))). is_some o) was_none) in
-          (d, left, without_next low d c without (without_from low low d c without form (omega arith) ∙ gone));
-      images = λ c leaves. purged_upto low (low + 1) a c le (is.images c leaves);
-      moments = weakened a b (AtPurge low a) (AtPurge (low + 1) a) is.moments (λ c told at. (purged_upto low (low + 1) a c le at.0, at.1));
-      out = is.out;
-      err = is.err;
-    }
+-- no file is there up to that number
+purged_skip : (a b : State) (low high : ℕ) → HaveNames a → low ≤ high → high ≤ 2 ^ 24 → ((n : ℕ) → low ≤ n → n < high → a.folder (Log n) ≡ None) → Purges low a b true → Purges high a b true
+purged_skip a b low high names le form none is = record {
+  folder = λ done. without_skip low high a.folder b.folder le none (is.folder refl);
+  part = (high, omega arith, without_skip low high a.folder b.folder le none (is.folder refl));
+  durable = λ done c leaves.
+      let (d, left, without) = is.durable refl c leaves in
+      (d, left, without_skip low high d c le (λ n from less. absent (d (Log n)) (names d left (Log n) (omega (arith, less, form)) ∙ ap (λ (o : Option (List (List ℕ))). is_some o) (none n from less))) without);
+  images = λ c leaves. purged_upto low high a c le (is.images c leaves);
+  moments = weakened a b (AtPurge low a) (AtPurge high a) is.moments (λ c told at. (purged_upto low high a c le at.0, at.1));
+  out = is.out;
+  err = is.err;
+}
 
 -- the next file is removed, or that fails
-pub purged_more : (a b c : State) (low : ℕ) (done : Bool) → Purges low a b true → Removes (Log low) b c done → Purges (low + 1) a c done
+purged_more : (a b c : State) (low : ℕ) (done : Bool) → Purges low a b true → Removes (Log low) b c done → Purges (low + 1) a c done
 purged_more a b c low done is removes =
     let le : low ≤ low + 1 = omega arith in
     let image : (e : Folder) → c.may_leave e → IsPurged (low + 1) a e =
@@ -301,57 +302,23 @@ purged_after a b c below done only lists is =
       err = is.err ∙ lists.tells.err;
     }
 
--- what holds once it is done holds where it is said whether it is
-pub purged_any : (low : ℕ) (a b : State) (done : Bool) → Purges low a b true → Purges low a b done
-purged_any low a b done is = record { folder = λ finished. is.folder refl; part = is.part; durable = λ finished. is.durable refl; images = is.images; moments = is.moments; out = is.out; err = is.err }
+-- the files up to the lowest one of the names are none
+pub purged_first : (s : State) (names : List FileName) (end lowest : ℕ) → OnlyNow s → HaveNames s → Lists s.folder names → end ≤ 2 ^ 24 → IsLowest names 0 end lowest → Purges lowest s s true
+purged_first s names end lowest only have lists form is =
+    purged_skip s s 0 lowest have (omega arith) (omega (arith, is.upto, form))
+    (λ n from less. none_listed (s.folder (Log n)) _ (is.none n from less) (lists (Log n) (omega (arith, less, is.upto, form)))) (purged_none s only)
 
--- the next file is removed, or isn't there
-pub purged_step : (a b c : State) (low : ℕ) (done : Bool) → HaveNames a → low < 2 ^ 24 → Purges low a b true → RemovesIf low b c done → Purges (low + 1) a c done
-purged_step a b c low done names form is (inl removes) = purged_more a b c low done is removes
-purged_step a b c low done names form is (inr (none, same)) = purged_any (low + 1) a c done (purged_next a c low names form (purged_look a b c low is same) (ap (λ (x : Folder). x (Log low)) same.folder ∙ none))
+-- the lowest file was removed
+pub purged_next : (a b c : State) (names : List FileName) (end number lowest : ℕ) → HaveNames a → Lists a.folder names → end ≤ 2 ^ 24 → IsLowest names (number + 1) end lowest → Purges number a b true → Removes (Log number) b c true → Purges lowest a c true
+purged_next a b c names end number lowest have lists form is so_far removes =
+    purged_skip a c (number + 1) lowest have is.from (omega (arith, is.upto, form))
+    (λ n from less. none_listed (a.folder (Log n)) _ (is.none n from less) (lists (Log n) (omega (arith, less, is.upto, form)))) (purged_more a b c number true so_far removes)
 
--- nothing is told by a look and by the call after it
-tells_then : (a b c : State) → ((t : ℕ) (f : Folder) → t ≤ a.moment → a.may_leave f → a.since t f a.out) → ((f : Folder) → b.may_leave f → a.may_leave f) → TellsNothing a b → TellsNothing b c → TellsNothing a c
-tells_then a b c counts no_more first next = record {
-  out = next.out ∙ first.out;
-  err = next.err ∙ first.err;
-  time = record {
-    later = omega (arith, first.time.later, next.time.later);
-    nothing_else = λ t f told le left.
-        ⊎_elim (λ was. ⊎_elim (λ before. inl before) (λ now. inl (subst (λ (l : List ℕ). a.since t f l) (sym (now.2 ∙ nothing_more now.1)) (counts t f le (no_more f now.0)))) (first.time.nothing_else t f told le was))
-        (λ now. inr (now.0, now.1, now.2 ∙ ap (λ (l : List ℕ). l ++ take now.1 []) first.out))
-        (next.time.nothing_else t f told (omega (arith, le, first.time.later)) left);
-    keeps = λ t f told le left. next.time.keeps t f told (omega (arith, le, first.time.later)) (first.time.keeps t f told le left);
-  };
-}
-  where
-    nothing_more : (n : ℕ) → a.out ++ take n [] ≡ a.out
-    nothing_more n = ap (λ (l : List ℕ). a.out ++ l) (none_of n) ∙ append-nil a.out
+-- or that failed
+pub purged_failed : (a b c : State) (number end : ℕ) (done failed : Bool) → number < end → failed ≡ false → Purges number a b true → Removes (Log number) b c done → Purges end a c failed
+purged_failed a b c number end done failed below is_failed so_far removes = purged_part (number + 1) end a c done failed (omega (arith, below)) is_failed (purged_more a b c number done so_far removes)
 
--- a file that was looked at is removed, or that fails
-pub looked_removes : (a b c : State) (file : FileName) (done : Bool) → ((t : ℕ) (f : Folder) → t ≤ a.moment → a.may_leave f → a.since t f a.out) → Unchanged a b → Removes file b c done → Removes file a c done
-looked_removes a b c file done counts same removes = record {
-  whole = λ finished. removes.whole finished ∙ ap (λ (x : Folder). with_file file None x) same.folder;
-  either = elim removes.either [
-    | inl stays ↦ inl (stays ∙ same.folder)
-    | inr made ↦ inr (made ∙ ap (λ (x : Folder). with_file file None x) same.folder)
-  ];
-  images = λ e leaves. let (d, left, step) = removes.images e leaves in (d, same.images.no_more d left, step);
-  tells = tells_then a b c counts (λ d left. same.images.no_more d left) same.tells removes.tells;
-}
-
--- a look that failed removes nothing
-pub look_failed : (a b : State) (file : FileName) (failed : Bool) → failed ≡ false → Unchanged a b → Removes file a b failed
-look_failed a b file failed is_failed same = record {
-  whole = λ finished. absurd (not_done failed is_failed finished);
-  either = inl same.folder;
-  images = λ d leaves. (d, same.images.no_more d leaves, inr (is_failed, refl));
-  tells = same.tells;
-}
-
--- the files of the folder's names were removed
-pub purged_names : (a b c : State) (names : List FileName) (end lowest below : ℕ) (done : Bool) → OnlyNow a → Lists a.folder names → Narrows a b → HaveNames b → IsLowest names end lowest → end ≡ min below (2 ^ 24)
-    → (HaveNames b → HasNoneBelow lowest b.folder → Purges end b c done) → Purges below a c done
-purged_names a b c names end lowest below done only lists narrows have is end_is purges =
-    let none : HasNoneBelow lowest b.folder = λ n less low. ap (λ (x : Folder). x (Log n)) narrows.folder ∙ none_below a.folder names end lowest lists is n less low in
-    purged_after a b c below done only narrows (subst (λ (k : ℕ). Purges k b c done) end_is (purges have none))
+-- the next file of the names is there
+pub listed_there : (a b : State) (names : List FileName) (number : ℕ) → Lists a.folder names → number < 2 ^ 24 → Purges number a b true → 1 ≤ count_by (same_file (Log number)) names → IsSome (b.folder (Log number))
+listed_there a b names number lists form so_far some =
+    subst (λ (o : Option (List (List ℕ))). IsSome o) (sym (without_from number number a.folder b.folder (so_far.folder refl) form (omega arith))) (some_listed (a.folder (Log number)) _ some (lists (Log number) form))

@@ -1,10 +1,9 @@
 -- Log files that are removed since nothing in them is needed any more.
-use Rattle.std.specs.Prelude.{◌≡◌, ◌⊎◌, ℕ, ◌^◌, ◌<◌, ◌≤◌, Bool, false, if◌then◌else◌, nat_lt, IsTrue, None, List, count_by}
+use Rattle.std.specs.Prelude.{◌≡◌, ◌⊎◌, ℕ, ◌<◌, ◌≤◌, Bool, false, if◌then◌else◌, nat_le, nat_lt, IsTrue, None, List, count_by}
 use Rattle.aria_host.specs.declared.file_name.FileName.{FileName}
 use Rattle.aria_host.specs.declared.file_name.FileName.TheVariants.{Log}
 use Rattle.aria_host.specs.Folder.{Folder, IsFileName, same_file}
 use Rattle.aria_host.specs.State.{State, LeavesOnly}
-use Rattle.aria_host.specs.Calls.{Removes, Unchanged}
 
 -- it is a file of the log with a number below this
 abbrev pub is_log_below : ℕ → FileName → Bool
@@ -38,21 +37,15 @@ pub record Purges (below : ℕ) (old new : State) (done : Bool) : Type 0 where
   pub out : new.out ≡ old.out
   pub err : new.err ≡ old.err
 
--- the number of a log file, and of another file this one
-abbrev pub number_or : ℕ → FileName → ℕ
-number_or end (Log number) = number
-number_or end _ = end
+-- the number of a log file if it isn't below the first, and the end of all other files
+abbrev pub number_from : ℕ → ℕ → FileName → ℕ
+number_from first end (Log number) = if nat_le first number then number else end
+number_from first end _ = end
 
--- the folder has no log file below this number
-abbrev pub HasNoneBelow : ℕ → Folder → Type 0
-HasNoneBelow low folder = (number : ℕ) → number < low → number < 2 ^ 24 → folder (Log number) ≡ None
-
--- Of the log files among these names none has a lower number; it is that of one of them, or the end where all are behind.
-pub record IsLowest (names : List FileName) (end lowest : ℕ) : Type 0 where
+-- Of the log files among these names none from the first on has a lower number; it is that of one of them, or the end where
+-- all are behind.
+pub record IsLowest (names : List FileName) (first end lowest : ℕ) : Type 0 where
+  pub from : first ≤ lowest
   pub upto : lowest ≤ end
-  pub none : (number : ℕ) → number < lowest → count_by (same_file (Log number)) names ≡ 0
+  pub none : (number : ℕ) → first ≤ number → number < lowest → count_by (same_file (Log number)) names ≡ 0
   pub here : (lowest ≡ end) ⊎ (1 ≤ count_by (same_file (Log lowest)) names)
-
--- the log file of this number is removed, unless it isn't there
-abbrev pub RemovesIf : ℕ → State → State → Bool → Type 0
-RemovesIf number old new done = Removes (Log number) old new done ⊎ ((old.folder (Log number) ≡ None) × Unchanged old new)

@@ -1,11 +1,11 @@
 //! Removes the log's files that nothing needs any more.
 
-ghost use Rattle.std.specs.Prelude.{◌≡◌, ◌≤◌, ◌<◌, ◌^◌, ◌∷◌, ◌++◌, [], ℕ, List, IsTrue, is_ok};
+ghost use Rattle.std.specs.Prelude.{◌≡◌, ◌≤◌, ◌^◌, ◌∷◌, ◌++◌, [], ℕ, List, IsTrue, is_ok};
 ghost use Rattle.aria_host.specs.declared.file_name.FileName.{FileName};
-ghost use Rattle.aria_host.specs.Calls.{HasDiskCause, HasDiskOrMemoryCause, HaveNames};
+ghost use Rattle.aria_host.specs.Calls.{HasDiskCause, HasDiskOrMemoryCause, HaveNames, Lists};
 ghost use Rattle.aria_log.specs.Groups.{Logged};
 ghost use Rattle.aria_log.specs.Log.{file_of, IsLog, LogKeeps};
-ghost use Rattle.aria_log.specs.Purge.{HasNoneBelow, IsLowest, number_or, Purges, RemovesIf};
+ghost use Rattle.aria_log.specs.Purge.{IsLowest, number_from, Purges};
 
 use crate::log::Log;
 use aria_host::{Fault, FileName, Host};
@@ -16,56 +16,47 @@ use std::cmp::min;
 /// Log files are numbered below this.
 const FILES_END: u32 = 1 << 24;
 
-// The number of a log file, and of another file this one.
-fn number_or(end: u32, file: &FileName) -> u32
-    ensures { result ≡ number_or end file.now }
+// The number of a log file if it isn't below the first, and the end of all other files.
+fn number_from(first: u32, end: u32, file: &FileName) -> u32
+    ensures { result ≡ number_from first end file.now }
 {
     match file {
-        FileName::Log(number) => *number,
+        FileName::Log(number) if *number >= first => *number,
         _ => end,
     }
 }
 
-// The lowest number of the log files among some names and this one.
-fn lower(lowest: u32, end: u32, file: &FileName) -> u32
-    ensures { (names : List FileName) → IsLowest names end lowest → IsLowest (names ++ file.now ∷ []) end result }
+// The lower one of a number and that of a file.
+fn lower(lowest: u32, first: u32, end: u32, file: &FileName) -> u32
+    ensures { (names : List FileName) → IsLowest names first end lowest → IsLowest (names ++ file.now ∷ []) first end result }
 {
-    min(lowest, number_or(end, file))
+    min(lowest, number_from(first, end, file))
 }
 
-// The lowest number of the log files among these names, or the end where all are behind it.
-fn lowest(names: &[FileName], end: u32) -> u32
-    ensures { IsLowest names.now end result }
+// The lowest number, from the first on, of the log files among these names; the end where all of them are behind it.
+fn lowest(names: &[FileName], first: u32, end: u32) -> u32
+    requires { first ≤ end }
+    ensures { IsLowest names.now first end result }
 {
     let mut lowest = end;
     for file in names {
-        lowest = lower(lowest, end, file);
+        lowest = lower(lowest, first, end, file);
     }
     lowest
 }
 
-// Removes the log file of this number, if it is there.
-fn remove_file<H: Host>(host: &mut H, number: u32) -> Result<(), Fault>
-    requires { number < 2 ^ 24 }
-    ensures removed { IsTrue H.tells → RemovesIf number (H.state host.old) (H.state host.new) (is_ok result) }
-    ensures cause { HasDiskCause (H.state host.old) (H.state host.new) result }
-{
-    let file = FileName::Log(number);
-    match host.look(&file)? {
-        None => Ok(()),
-        Some(_) => host.remove(&file),
-    }
-}
-
-// Removes the log files from this number up to that one, as many as there are, the lowest first. There are none below.
-fn remove_files<H: Host>(host: &mut H, first: u32, end: u32) -> Result<(), Fault>
-    requires upto { first ≤ end }
+// Removes the log files among these names that are below the end, the lowest first.
+fn remove_files<H: Host>(host: &mut H, names: &[FileName], end: u32) -> Result<(), Fault>
     requires low { end ≤ 2 ^ 24 }
-    ensures purged { IsTrue H.tells → HaveNames (H.state host.old) → HasNoneBelow first (H.state host.old).folder → Purges end (H.state host.old) (H.state host.new) (is_ok result) }
+    requires lists { IsTrue H.tells → Lists (H.state host.old).folder names.now }
+    requires synced { IsTrue H.tells → HaveNames (H.state host.old) }
+    ensures purged { IsTrue H.tells → Purges end (H.state host.old) (H.state host.new) (is_ok result) }
     ensures cause { HasDiskCause (H.state host.old) (H.state host.new) result }
 {
-    for number in first..end {
-        remove_file(host, number)?;
+    let mut number = lowest(names, 0, end);
+    while number < end {
+        host.remove(&FileName::Log(number))?;
+        number = lowest(names, number + 1, end);
     }
     Ok(())
 }
@@ -80,7 +71,6 @@ impl Log {
         ensures cause { HasDiskOrMemoryCause (H.state host.old) (H.state host.new) result }
     {
         let names = host.names(alloc)?;
-        let end = min(below.file, FILES_END);
-        remove_files(host, lowest(names.as_slice(), end), end)
+        remove_files(host, names.as_slice(), min(below.file, FILES_END))
     }
 }

@@ -3,6 +3,8 @@ ghost use Rattle.aria_host.specs.MemHost.{mem_state};
 ghost use Rattle.aria_log.specs.Log.{HasNoLog, IsRunning};
 ghost use Rattle.aria_log.specs.Spelling.{IsSpelled};
 
+mod purging;
+
 use crate::Log;
 use aria_host::{Fault, FileName, MemHost};
 use aria_page::{Bytes, List};
