@@ -2,7 +2,7 @@
 #![tactic(auto)]
 
 use aria_host::{DirHost, StdSource};
-use aria_tools::{WordList, aria};
+use aria_tools::{Status, WordList, aria};
 use std::fs::File;
 use std::io::ErrorKind;
 use std::process::ExitCode;
@@ -30,14 +30,15 @@ fn read_words(rt: &HostRuntime) -> io::Result<WordList> {
     Ok(words)
 }
 
-// Ends with this status and line, or with want of memory where that is the error.
-fn report(rt: &HostRuntime, error: io::Error, status: u8, line: &str) -> u8 {
-    if error.kind() == ErrorKind::OutOfMemory {
-        let _ = eprintln!(rt; "aria: want of memory");
-        return 3;
-    }
-    let _ = eprintln!(rt; "{line}");
-    status
+// Ends with this status, or with want of memory where that is the error.
+fn report(rt: &HostRuntime, error: io::Error, status: Status) -> u8 {
+    let status = if error.kind() == ErrorKind::OutOfMemory {
+        Status::Memory
+    } else {
+        status
+    };
+    let _ = eprint!(rt; "{}", status.line());
+    status.code()
 }
 
 fn run(rt: &HostRuntime) -> u8 {
@@ -48,14 +49,14 @@ fn run(rt: &HostRuntime) -> u8 {
             aria(rt.alloc(), &words, &mut host, &mut input).status
         }
         // Words that are no text are bad words.
-        Err(error) => report(rt, error, 2, "aria: bad words"),
+        Err(error) => report(rt, error, Status::BadWords),
     }
 }
 
 fn main(rt: HostRuntime) -> ExitCode {
     let status = match take_places(&rt) {
         Ok(_places) => run(&rt),
-        Err(error) => report(&rt, error, 4, "aria: disk fault"),
+        Err(error) => report(&rt, error, Status::Disk),
     };
     ExitCode::from(status)
 }

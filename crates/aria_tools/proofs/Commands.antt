@@ -6,7 +6,7 @@ use Rattle.std.proofs.Math.Seq.{take-length, drop-append_seam}
 use Rattle.aria_host.specs.Count.{Rose}
 use Rattle.aria_host.specs.State.{Folder, State, LeavesOnly}
 use Rattle.aria_host.specs.declared.fault.Fault.{Fault}
-use Rattle.aria_host.specs.declared.fault.Fault.TheVariants as faults
+use Rattle.aria_host.specs.declared.fault.Fault.TheVariants.{Memory, Disk, LogDamaged, NotOurs, Input, Tell, LogSpent, ControlDamaged, PageDamaged, FileMissing, TooManyTables}
 use Rattle.aria_host.proofs.Moments.{joined, weakened}
 use Rattle.aria_model.specs.World.{World}
 use Rattle.aria_journal.specs.Front.{end_of}
@@ -22,9 +22,10 @@ use Rattle.aria_engine.specs.Done.{Leaves}
 use Rattle.aria_engine.proofs.Leaving.{first_all, part_of_first, leaves_none}
 use Rattle.aria_engine.proofs.Meeting.{meets_no_first}
 use Rattle.aria_tools.specs.declared.stop.Stop.{Stop}
-use Rattle.aria_tools.specs.declared.stop.Stop.TheVariants.{Memory, Disk, LogDamaged, NotOurs, Input, Tell, TooLong, LogSpent, ControlDamaged, PageDamaged, FileMissing, TooManyTables}
+use Rattle.aria_tools.specs.declared.stop.Stop.TheVariants as why
 use Rattle.aria_tools.specs.Sessions.{Works}
-use Rattle.aria_tools.specs.Stops.{named_fault, status_of, stop_of}
+use Rattle.aria_tools.specs.Statuses.{is_named}
+use Rattle.aria_tools.specs.Stops.{named_fault, status_of}
 use Rattle.aria_tools.specs.Endings.{Supply, StopsBy, Ends, AnswersAll, AnswersBy, AnswersEnded, AnswersFull, Answered, WasSound, RunsWhole, MeetsDue, MeetsAllDue, Began, Prefix, BeganOrPrefix, IsEnd, IsEndText, IsStatusText, TellsText, TellsErr, status_of_run}
 use Rattle.aria_tools.proofs.Pieces.{rose_since, same_faults_more}
 
@@ -41,32 +42,32 @@ leaves_prefix w lines xs out c told_by leaves = record {
 -- a run's end, also since its store was opened, which counted no fault
 pub ends_after : (ti to : Bool) (s0 s1 : Supply) (r : Result Bool Stop) (h h0 h1 : State) → SameFaults h h0 → IfErr r (λ stop. named_fault stop ≡ None) → Ends ti to s0 s1 r h0 h1 → Ends ti to s0 s1 r h h1
 ends_after ti to s0 s1 (Ok refused) h h0 h1 same sound ends = record { few = ends.few; ended = ends.ended; calm = ends.calm; same = same_faults_more h h0 h1 same ends.same }
-ends_after ti to s0 s1 (Err Memory) h h0 h1 same sound ends = ends
-ends_after ti to s0 s1 (Err Disk) h h0 h1 same sound ends = (ends.0, rose_since h.disk_faults h0.disk_faults h1.disk_faults (2 ^ 64 - 1) same.disk ends.1)
-ends_after ti to s0 s1 (Err (LogDamaged file page)) h h0 h1 same sound ends = absurd (cc)
-ends_after ti to s0 s1 (Err (NotOurs file)) h h0 h1 same sound ends = absurd (cc)
-ends_after ti to s0 s1 (Err Input) h h0 h1 same sound ends = ends
-ends_after ti to s0 s1 (Err Tell) h h0 h1 same sound ends = (ends.0, rose_since h.tell_faults h0.tell_faults h1.tell_faults (2 ^ 64 - 1) same.tell ends.1)
-ends_after ti to s0 s1 (Err TooLong) h h0 h1 same sound ends = ends
-ends_after ti to s0 s1 (Err (LogSpent file)) h h0 h1 same sound ends = absurd ends
-ends_after ti to s0 s1 (Err ControlDamaged) h h0 h1 same sound ends = absurd ends
-ends_after ti to s0 s1 (Err (PageDamaged file page)) h h0 h1 same sound ends = absurd ends
-ends_after ti to s0 s1 (Err (FileMissing file)) h h0 h1 same sound ends = absurd ends
-ends_after ti to s0 s1 (Err TooManyTables) h h0 h1 same sound ends = absurd ends
+ends_after ti to s0 s1 (Err (why.Fault (Memory error))) h h0 h1 same sound ends = ends
+ends_after ti to s0 s1 (Err (why.Fault Disk)) h h0 h1 same sound ends = (ends.0, rose_since h.disk_faults h0.disk_faults h1.disk_faults (2 ^ 64 - 1) same.disk ends.1)
+ends_after ti to s0 s1 (Err (why.Fault (LogDamaged file page))) h h0 h1 same sound ends = absurd (cc)
+ends_after ti to s0 s1 (Err (why.Fault (NotOurs file))) h h0 h1 same sound ends = absurd (cc)
+ends_after ti to s0 s1 (Err (why.Fault Input)) h h0 h1 same sound ends = ends
+ends_after ti to s0 s1 (Err (why.Fault Tell)) h h0 h1 same sound ends = (ends.0, rose_since h.tell_faults h0.tell_faults h1.tell_faults (2 ^ 64 - 1) same.tell ends.1)
+ends_after ti to s0 s1 (Err why.TooLong) h h0 h1 same sound ends = ends
+ends_after ti to s0 s1 (Err (why.Fault (LogSpent file))) h h0 h1 same sound ends = absurd ends
+ends_after ti to s0 s1 (Err (why.Fault ControlDamaged)) h h0 h1 same sound ends = absurd ends
+ends_after ti to s0 s1 (Err (why.Fault (PageDamaged file page))) h h0 h1 same sound ends = absurd ends
+ends_after ti to s0 s1 (Err (why.Fault (FileMissing file))) h h0 h1 same sound ends = absurd ends
+ends_after ti to s0 s1 (Err (why.Fault TooManyTables)) h h0 h1 same sound ends = absurd ends
 
 by_after : (stop : Stop) (s0 s1 : Supply) (w : World) (xs : Exceptions) (h h0 h1 : State) → h0.out ≡ h.out → AnswersBy stop s0 s1 w xs h0 h1 → AnswersBy stop s0 s1 w xs h h1
-by_after Memory s0 s1 w xs h h0 h1 same by = tt
-by_after Disk s0 s1 w xs h h0 h1 same by = tt
-by_after (LogDamaged file page) s0 s1 w xs h h0 h1 same by = tt
-by_after (NotOurs file) s0 s1 w xs h h0 h1 same by = tt
-by_after Input s0 s1 w xs h h0 h1 same (taken, is, out) = (taken, is, out ∙ ap (λ (o : List ℕ). o ++ told w (ended_lines taken) xs) same)
-by_after Tell s0 s1 w xs h h0 h1 same by = tt
-by_after TooLong s0 s1 w xs h h0 h1 same (taken, further, is, long, out) = (taken, further, is, long, out ∙ ap (λ (o : List ℕ). o ++ told w (ended_lines taken) xs) same)
-by_after (LogSpent file) s0 s1 w xs h h0 h1 same by = tt
-by_after ControlDamaged s0 s1 w xs h h0 h1 same by = tt
-by_after (PageDamaged file page) s0 s1 w xs h h0 h1 same by = tt
-by_after (FileMissing file) s0 s1 w xs h h0 h1 same by = tt
-by_after TooManyTables s0 s1 w xs h h0 h1 same by = tt
+by_after (why.Fault (Memory error)) s0 s1 w xs h h0 h1 same by = tt
+by_after (why.Fault Disk) s0 s1 w xs h h0 h1 same by = tt
+by_after (why.Fault (LogDamaged file page)) s0 s1 w xs h h0 h1 same by = tt
+by_after (why.Fault (NotOurs file)) s0 s1 w xs h h0 h1 same by = tt
+by_after (why.Fault Input) s0 s1 w xs h h0 h1 same (taken, is, out) = (taken, is, out ∙ ap (λ (o : List ℕ). o ++ told w (ended_lines taken) xs) same)
+by_after (why.Fault Tell) s0 s1 w xs h h0 h1 same by = tt
+by_after why.TooLong s0 s1 w xs h h0 h1 same (taken, further, is, long, out) = (taken, further, is, long, out ∙ ap (λ (o : List ℕ). o ++ told w (ended_lines taken) xs) same)
+by_after (why.Fault (LogSpent file)) s0 s1 w xs h h0 h1 same by = tt
+by_after (why.Fault ControlDamaged) s0 s1 w xs h h0 h1 same by = tt
+by_after (why.Fault (PageDamaged file page)) s0 s1 w xs h h0 h1 same by = tt
+by_after (why.Fault (FileMissing file)) s0 s1 w xs h h0 h1 same by = tt
+by_after (why.Fault TooManyTables) s0 s1 w xs h h0 h1 same by = tt
 
 answered_after : (s0 s1 : Supply) (w : World) (xs : Exceptions) (k : ℕ) (r : Result Bool Stop) (h h0 h1 : State) → h0.out ≡ h.out → Answered s0 s1 w xs k r h0 h1 → Answered s0 s1 w xs k r h h1
 answered_after s0 s1 w xs k (Ok refused) h h0 h1 same all = record {
@@ -123,18 +124,18 @@ runs_never s0 s1 world met stop h h0 none same by opens = let xs : Exceptions = 
 }
 
 -- a fault of the opening owes no answers
-pub opening_answers : (to : Bool) (fault : Fault) (s0 s1 : Supply) (w : World) (xs : Exceptions) (h h0 : State) → HasOpenCause to fault h h0 → AnswersBy (stop_of fault) s0 s1 w xs h h0
-opening_answers to (faults.Memory error) s0 s1 w xs h h0 cause = tt
-opening_answers to faults.Disk s0 s1 w xs h h0 cause = tt
-opening_answers to faults.Tell s0 s1 w xs h h0 cause = absurd cause
-opening_answers to faults.Input s0 s1 w xs h h0 cause = absurd cause
-opening_answers to (faults.LogDamaged file page) s0 s1 w xs h h0 cause = tt
-opening_answers to (faults.NotOurs file) s0 s1 w xs h h0 cause = tt
-opening_answers to (faults.LogSpent file) s0 s1 w xs h h0 cause = tt
-opening_answers to faults.ControlDamaged s0 s1 w xs h h0 cause = tt
-opening_answers to (faults.PageDamaged file page) s0 s1 w xs h h0 cause = tt
-opening_answers to (faults.FileMissing file) s0 s1 w xs h h0 cause = tt
-opening_answers to faults.TooManyTables s0 s1 w xs h h0 cause = tt
+pub opening_answers : (to : Bool) (fault : Fault) (s0 s1 : Supply) (w : World) (xs : Exceptions) (h h0 : State) → HasOpenCause to fault h h0 → AnswersBy (why.Fault fault) s0 s1 w xs h h0
+opening_answers to (Memory error) s0 s1 w xs h h0 cause = tt
+opening_answers to Disk s0 s1 w xs h h0 cause = tt
+opening_answers to Tell s0 s1 w xs h h0 cause = absurd cause
+opening_answers to Input s0 s1 w xs h h0 cause = absurd cause
+opening_answers to (LogDamaged file page) s0 s1 w xs h h0 cause = tt
+opening_answers to (NotOurs file) s0 s1 w xs h h0 cause = tt
+opening_answers to (LogSpent file) s0 s1 w xs h h0 cause = tt
+opening_answers to ControlDamaged s0 s1 w xs h h0 cause = tt
+opening_answers to (PageDamaged file page) s0 s1 w xs h h0 cause = tt
+opening_answers to (FileMissing file) s0 s1 w xs h h0 cause = tt
+opening_answers to TooManyTables s0 s1 w xs h h0 cause = tt
 
 -- what a crash leaves of a run, in the words of the whole command
 pub began_or_prefix : (h : State) (w : World) (lines : List (List ℕ)) (xs : Exceptions) (c : Folder) (t : List ℕ) → Began h c t ⊎ Leaves w lines xs h.out c t → BeganOrPrefix h w lines xs c t
@@ -164,18 +165,18 @@ moments_after P h h0 h1 counts run tells = record {
 
 ok_of : (r : Result Bool Stop) → status_of_run r ≤ 1 → (refused : Bool) × (r ≡ Ok refused)
 ok_of (Ok refused) low = (refused, refl)
-ok_of (Err Memory) low = absurd (omega (arith, low))
-ok_of (Err Disk) low = absurd (omega (arith, low))
-ok_of (Err (LogDamaged file page)) low = absurd (omega (arith, low))
-ok_of (Err (NotOurs file)) low = absurd (omega (arith, low))
-ok_of (Err Input) low = absurd (omega (arith, low))
-ok_of (Err Tell) low = absurd (omega (arith, low))
-ok_of (Err TooLong) low = absurd (omega (arith, low))
-ok_of (Err (LogSpent file)) low = absurd (omega (arith, low))
-ok_of (Err ControlDamaged) low = absurd (omega (arith, low))
-ok_of (Err (PageDamaged file page)) low = absurd (omega (arith, low))
-ok_of (Err (FileMissing file)) low = absurd (omega (arith, low))
-ok_of (Err TooManyTables) low = absurd (omega (arith, low))
+ok_of (Err (why.Fault (Memory error))) low = absurd (omega (arith, low))
+ok_of (Err (why.Fault Disk)) low = absurd (omega (arith, low))
+ok_of (Err (why.Fault (LogDamaged file page))) low = absurd (omega (arith, low))
+ok_of (Err (why.Fault (NotOurs file))) low = absurd (omega (arith, low))
+ok_of (Err (why.Fault Input)) low = absurd (omega (arith, low))
+ok_of (Err (why.Fault Tell)) low = absurd (omega (arith, low))
+ok_of (Err why.TooLong) low = absurd (omega (arith, low))
+ok_of (Err (why.Fault (LogSpent file))) low = absurd (omega (arith, low))
+ok_of (Err (why.Fault ControlDamaged)) low = absurd (omega (arith, low))
+ok_of (Err (why.Fault (PageDamaged file page))) low = absurd (omega (arith, low))
+ok_of (Err (why.Fault (FileMissing file))) low = absurd (omega (arith, low))
+ok_of (Err (why.Fault TooManyTables)) low = absurd (omega (arith, low))
 
 -- the status of a run that has read all
 pub ended_ok : (r : Result Bool Stop) (status : ℕ) → IsEnd r status → status ≤ 1 → (refused : Bool) × (r ≡ Ok refused) × (status ≡ status_of_run r)
@@ -206,50 +207,50 @@ run_statuses ti to s0 s1 r status h h0 ends end = ⊎_elim (λ (is : status ≡ 
     most : (o : Result Bool Stop) → Ends ti to s0 s1 o h h0 → status_of_run o ≤ 8
     most (Ok true) all = omega arith
     most (Ok false) all = omega arith
-    most (Err Memory) stops = omega arith
-    most (Err Disk) stops = omega arith
-    most (Err (LogDamaged file page)) stops = omega arith
-    most (Err (NotOurs file)) stops = omega arith
-    most (Err Input) stops = omega arith
-    most (Err Tell) stops = omega arith
-    most (Err TooLong) stops = omega arith
-    most (Err (LogSpent file)) stops = absurd stops
-    most (Err ControlDamaged) stops = absurd stops
-    most (Err (PageDamaged file page)) stops = absurd stops
-    most (Err (FileMissing file)) stops = absurd stops
-    most (Err TooManyTables) stops = absurd stops
+    most (Err (why.Fault (Memory error))) stops = omega arith
+    most (Err (why.Fault Disk)) stops = omega arith
+    most (Err (why.Fault (LogDamaged file page))) stops = omega arith
+    most (Err (why.Fault (NotOurs file))) stops = omega arith
+    most (Err (why.Fault Input)) stops = omega arith
+    most (Err (why.Fault Tell)) stops = omega arith
+    most (Err why.TooLong) stops = omega arith
+    most (Err (why.Fault (LogSpent file))) stops = absurd stops
+    most (Err (why.Fault ControlDamaged)) stops = absurd stops
+    most (Err (why.Fault (PageDamaged file page))) stops = absurd stops
+    most (Err (why.Fault (FileMissing file))) stops = absurd stops
+    most (Err (why.Fault TooManyTables)) stops = absurd stops
 
-stop_six : (r : Result Bool Stop) → status_of_run r ≡ 6 → r ≡ Err Input
+stop_six : (r : Result Bool Stop) → status_of_run r ≡ 6 → r ≡ Err (why.Fault Input)
 stop_six (Ok true) is = absurd (omega (arith, is))
 stop_six (Ok false) is = absurd (omega (arith, is))
-stop_six (Err Memory) is = absurd (omega (arith, is))
-stop_six (Err Disk) is = absurd (omega (arith, is))
-stop_six (Err (LogDamaged file page)) is = absurd (omega (arith, is))
-stop_six (Err (NotOurs file)) is = absurd (omega (arith, is))
-stop_six (Err Input) is = refl
-stop_six (Err Tell) is = absurd (omega (arith, is))
-stop_six (Err TooLong) is = absurd (omega (arith, is))
-stop_six (Err (LogSpent file)) is = absurd (omega (arith, is))
-stop_six (Err ControlDamaged) is = absurd (omega (arith, is))
-stop_six (Err (PageDamaged file page)) is = absurd (omega (arith, is))
-stop_six (Err (FileMissing file)) is = absurd (omega (arith, is))
-stop_six (Err TooManyTables) is = absurd (omega (arith, is))
+stop_six (Err (why.Fault (Memory error))) is = absurd (omega (arith, is))
+stop_six (Err (why.Fault Disk)) is = absurd (omega (arith, is))
+stop_six (Err (why.Fault (LogDamaged file page))) is = absurd (omega (arith, is))
+stop_six (Err (why.Fault (NotOurs file))) is = absurd (omega (arith, is))
+stop_six (Err (why.Fault Input)) is = refl
+stop_six (Err (why.Fault Tell)) is = absurd (omega (arith, is))
+stop_six (Err why.TooLong) is = absurd (omega (arith, is))
+stop_six (Err (why.Fault (LogSpent file))) is = absurd (omega (arith, is))
+stop_six (Err (why.Fault ControlDamaged)) is = absurd (omega (arith, is))
+stop_six (Err (why.Fault (PageDamaged file page))) is = absurd (omega (arith, is))
+stop_six (Err (why.Fault (FileMissing file))) is = absurd (omega (arith, is))
+stop_six (Err (why.Fault TooManyTables)) is = absurd (omega (arith, is))
 
-stop_eight : (r : Result Bool Stop) → status_of_run r ≡ 8 → r ≡ Err TooLong
+stop_eight : (r : Result Bool Stop) → status_of_run r ≡ 8 → r ≡ Err why.TooLong
 stop_eight (Ok true) is = absurd (omega (arith, is))
 stop_eight (Ok false) is = absurd (omega (arith, is))
-stop_eight (Err Memory) is = absurd (omega (arith, is))
-stop_eight (Err Disk) is = absurd (omega (arith, is))
-stop_eight (Err (LogDamaged file page)) is = absurd (omega (arith, is))
-stop_eight (Err (NotOurs file)) is = absurd (omega (arith, is))
-stop_eight (Err Input) is = absurd (omega (arith, is))
-stop_eight (Err Tell) is = absurd (omega (arith, is))
-stop_eight (Err TooLong) is = refl
-stop_eight (Err (LogSpent file)) is = absurd (omega (arith, is))
-stop_eight (Err ControlDamaged) is = absurd (omega (arith, is))
-stop_eight (Err (PageDamaged file page)) is = absurd (omega (arith, is))
-stop_eight (Err (FileMissing file)) is = absurd (omega (arith, is))
-stop_eight (Err TooManyTables) is = absurd (omega (arith, is))
+stop_eight (Err (why.Fault (Memory error))) is = absurd (omega (arith, is))
+stop_eight (Err (why.Fault Disk)) is = absurd (omega (arith, is))
+stop_eight (Err (why.Fault (LogDamaged file page))) is = absurd (omega (arith, is))
+stop_eight (Err (why.Fault (NotOurs file))) is = absurd (omega (arith, is))
+stop_eight (Err (why.Fault Input)) is = absurd (omega (arith, is))
+stop_eight (Err (why.Fault Tell)) is = absurd (omega (arith, is))
+stop_eight (Err why.TooLong) is = refl
+stop_eight (Err (why.Fault (LogSpent file))) is = absurd (omega (arith, is))
+stop_eight (Err (why.Fault ControlDamaged)) is = absurd (omega (arith, is))
+stop_eight (Err (why.Fault (PageDamaged file page))) is = absurd (omega (arith, is))
+stop_eight (Err (why.Fault (FileMissing file))) is = absurd (omega (arith, is))
+stop_eight (Err (why.Fault TooManyTables)) is = absurd (omega (arith, is))
 
 -- what a run has answered at a fault of the input
 pub ended_answered : (s0 s1 : Supply) (w : World) (met : List Met) (r : Result Bool Stop) (status : ℕ) (h h0 h1 : State) → IsEnd r status → status ≡ 6 → RunsWhole s0 s1 w met r h h0 → h1.out ≡ h0.out → AnswersEnded s0 s1 w (met_at met) h h1
@@ -306,25 +307,24 @@ front_told s0 s1 w met r h h0 runs =
     (part.0, first.1 ∙ ap (λ (t : List ℕ). h.out ++ t) part.1)
 
 -- where a run stops at a fault that its line names, the folder is damaged
-damage_found : (ti to : Bool) (s0 s1 : Supply) (stop : Stop) (fault : Fault) (h h0 : State) → named_fault stop ≡ Some fault → StopsBy to stop s0 s1 h h0 → IsTrue to → (status_of stop ≡ 5) × IsDamage fault h.folder
-damage_found ti to s0 s1 Memory fault h h0 is stops told = absurd (cc)
-damage_found ti to s0 s1 Disk fault h h0 is stops told = absurd (cc)
-damage_found ti to s0 s1 (LogDamaged file page) fault h h0 is stops told = let same : faults.LogDamaged file page ≡ fault = cc in (refl, subst (λ (f : Fault). IsDamage f h.folder) same (stops.1 told).0)
-damage_found ti to s0 s1 (NotOurs file) fault h h0 is stops told = let same : faults.NotOurs file ≡ fault = cc in (refl, subst (λ (f : Fault). IsDamage f h.folder) same (stops.1 told).0)
-damage_found ti to s0 s1 Input fault h h0 is stops told = absurd (cc)
-damage_found ti to s0 s1 Tell fault h h0 is stops told = absurd (cc)
-damage_found ti to s0 s1 TooLong fault h h0 is stops told = absurd (cc)
-damage_found ti to s0 s1 (LogSpent file) fault h h0 is stops told = absurd stops
-damage_found ti to s0 s1 ControlDamaged fault h h0 is stops told = absurd stops
-damage_found ti to s0 s1 (PageDamaged file page) fault h h0 is stops told = absurd stops
-damage_found ti to s0 s1 (FileMissing file) fault h h0 is stops told = absurd stops
-damage_found ti to s0 s1 TooManyTables fault h h0 is stops told = absurd stops
+damage_found : (to : Bool) (s0 s1 : Supply) (fault : Fault) (h h0 : State) → IsTrue (is_named fault) → StopsBy to (why.Fault fault) s0 s1 h h0 → IsTrue to → (status_of (why.Fault fault) ≡ 5) × IsDamage fault h.folder
+damage_found to s0 s1 (Memory error) h h0 named stops told = absurd (cc)
+damage_found to s0 s1 Disk h h0 named stops told = absurd (cc)
+damage_found to s0 s1 Tell h h0 named stops told = absurd (cc)
+damage_found to s0 s1 Input h h0 named stops told = absurd (cc)
+damage_found to s0 s1 (LogDamaged file page) h h0 named stops told = (refl, (stops.1 told).0)
+damage_found to s0 s1 (LogSpent file) h h0 named stops told = absurd stops
+damage_found to s0 s1 ControlDamaged h h0 named stops told = absurd stops
+damage_found to s0 s1 (NotOurs file) h h0 named stops told = (refl, (stops.1 told).0)
+damage_found to s0 s1 (PageDamaged file page) h h0 named stops told = absurd stops
+damage_found to s0 s1 (FileMissing file) h h0 named stops told = absurd stops
+damage_found to s0 s1 TooManyTables h h0 named stops told = absurd stops
 
 -- the text of a run's end is that of its status
 pub text_is : (ti to : Bool) (s0 s1 : Supply) (r : Result Bool Stop) (status : ℕ) (text : List ℕ) (h h0 : State) → Ends ti to s0 s1 r h h0 → IsTrue to → IsEndText r status text → IsStatusText status h.folder text
 text_is ti to s0 s1 r status text h h0 ends told (inl plain) = inl (λ five. plain.0 (inl five), plain.1)
-text_is ti to s0 s1 r status text h h0 ends told (inr (stop, fault, r_is, named, is_status, is)) =
-    let found = damage_found ti to s0 s1 stop fault h h0 named (subst (λ (o : Result Bool Stop). Ends ti to s0 s1 o h h0) r_is ends) told in
+text_is ti to s0 s1 r status text h h0 ends told (inr (fault, r_is, named, is_status, is)) =
+    let found = damage_found to s0 s1 fault h h0 named (subst (λ (o : Result Bool Stop). Ends ti to s0 s1 o h h0) r_is ends) told in
     inr (is_status ∙ found.0, fault, found.1, is)
 
 -- what is told on standard error at the end, as told since the beginning
@@ -337,22 +337,22 @@ text_after text h h0 h1 same later (inr (rose, n, is)) = inr (rose_later h.tell_
 
 -- a folder that holds tables has no damage
 pub no_damage : (fault : Fault) (folder : Folder) (w : World) → IsDamage fault folder → Holds folder w → ⊥
-no_damage (faults.NotOurs file) folder w damage holds = none_there (folder file) damage.there (holds.alone file damage.form damage.other)
+no_damage (NotOurs file) folder w damage holds = none_there (folder file) damage.there (holds.alone file damage.form damage.other)
   where
     none_there : (content : Option (List (List ℕ))) → IsSome content → content ≡ None → ⊥
     none_there None there none = cc
     none_there (Some pages) there none = cc
-no_damage (faults.LogDamaged file page) folder w (one, alone, inl pages) holds = let none = holds.sound in cc
-no_damage (faults.LogDamaged file page) folder w (one, alone, inr line) holds = let none = holds.changes in let some = line.line in cc
-no_damage (faults.Memory error) folder w damage holds = absurd damage
-no_damage faults.Disk folder w damage holds = absurd damage
-no_damage faults.Tell folder w damage holds = absurd damage
-no_damage faults.Input folder w damage holds = absurd damage
-no_damage (faults.LogSpent file) folder w damage holds = absurd damage
-no_damage faults.ControlDamaged folder w damage holds = absurd damage
-no_damage (faults.PageDamaged file page) folder w damage holds = absurd damage
-no_damage (faults.FileMissing file) folder w damage holds = absurd damage
-no_damage faults.TooManyTables folder w damage holds = absurd damage
+no_damage (LogDamaged file page) folder w (one, alone, inl pages) holds = let none = holds.sound in cc
+no_damage (LogDamaged file page) folder w (one, alone, inr line) holds = let none = holds.changes in let some = line.line in cc
+no_damage (Memory error) folder w damage holds = absurd damage
+no_damage Disk folder w damage holds = absurd damage
+no_damage Tell folder w damage holds = absurd damage
+no_damage Input folder w damage holds = absurd damage
+no_damage (LogSpent file) folder w damage holds = absurd damage
+no_damage ControlDamaged folder w damage holds = absurd damage
+no_damage (PageDamaged file page) folder w damage holds = absurd damage
+no_damage (FileMissing file) folder w damage holds = absurd damage
+no_damage TooManyTables folder w damage holds = absurd damage
 
 -- no fault is counted, so none is answered
 pub completes : (to : Bool) (ti : Bool) (s0 s1 : Supply) (w : World) (met : List Met) (r : Result Bool Stop) (status : ℕ) (h h0 h1 : State) → IsTrue to → Holds h.folder w
@@ -368,37 +368,37 @@ completes to ti s0 s1 w met r status h h0 h1 told holds ends runs end short disk
     of : (o : Result Bool Stop) → Ends ti to s0 s1 o h h0 → Answered s0 s1 w (met_at met) runs.count o h h0 → (status_of_run o ≤ 1) ⊎ (status_of_run o ≡ 3)
     of (Ok true) all answered = inl (omega arith)
     of (Ok false) all answered = inl (omega arith)
-    of (Err Memory) stops answered = inr refl
-    of (Err Disk) stops answered = absurd (disk (rose_on h.disk_faults h0.disk_faults h1.disk_faults (2 ^ 64 - 1) stops.1 disk_later))
-    of (Err (LogDamaged file page)) stops answered = absurd (no_damage (faults.LogDamaged file page) h.folder w (stops.1 told).0 holds)
-    of (Err (NotOurs file)) stops answered = absurd (no_damage (faults.NotOurs file) h.folder w (stops.1 told).0 holds)
-    of (Err Input) stops answered = absurd (input stops.1)
-    of (Err Tell) stops answered = absurd (tell (rose_on h.tell_faults h0.tell_faults h1.tell_faults (2 ^ 64 - 1) stops.1 tell_later))
-    of (Err TooLong) stops answered =
+    of (Err (why.Fault (Memory error))) stops answered = inr refl
+    of (Err (why.Fault Disk)) stops answered = absurd (disk (rose_on h.disk_faults h0.disk_faults h1.disk_faults (2 ^ 64 - 1) stops.1 disk_later))
+    of (Err (why.Fault (LogDamaged file page))) stops answered = absurd (no_damage (LogDamaged file page) h.folder w (stops.1 told).0 holds)
+    of (Err (why.Fault (NotOurs file))) stops answered = absurd (no_damage (NotOurs file) h.folder w (stops.1 told).0 holds)
+    of (Err (why.Fault Input)) stops answered = absurd (input stops.1)
+    of (Err (why.Fault Tell)) stops answered = absurd (tell (rose_on h.tell_faults h0.tell_faults h1.tell_faults (2 ^ 64 - 1) stops.1 tell_later))
+    of (Err why.TooLong) stops answered =
         let by = answered.by in
         let long : length s0.left ≡ length by.0 + length (by.1 ∷ s1.left) = ap length by.2 ∙ length-append by.0 (by.1 ∷ s1.left) in
         absurd (omega (arith, long, by.3, short))
-    of (Err (LogSpent file)) stops answered = absurd stops
-    of (Err ControlDamaged) stops answered = absurd stops
-    of (Err (PageDamaged file page)) stops answered = absurd stops
-    of (Err (FileMissing file)) stops answered = absurd stops
-    of (Err TooManyTables) stops answered = absurd stops
+    of (Err (why.Fault (LogSpent file))) stops answered = absurd stops
+    of (Err (why.Fault ControlDamaged)) stops answered = absurd stops
+    of (Err (why.Fault (PageDamaged file page))) stops answered = absurd stops
+    of (Err (why.Fault (FileMissing file))) stops answered = absurd stops
+    of (Err (why.Fault TooManyTables)) stops answered = absurd stops
 
 -- a store is opened of a folder that holds tables
 pub was_sound : (r : Result Bool Stop) (folder : Folder) (w : World) → Holds folder w → WasSound r folder
 was_sound (Ok refused) folder w holds = (w, holds)
-was_sound (Err Memory) folder w holds = tt
-was_sound (Err Disk) folder w holds = tt
-was_sound (Err (LogDamaged file page)) folder w holds = tt
-was_sound (Err (NotOurs file)) folder w holds = tt
-was_sound (Err Input) folder w holds = (w, holds)
-was_sound (Err Tell) folder w holds = (w, holds)
-was_sound (Err TooLong) folder w holds = (w, holds)
-was_sound (Err (LogSpent file)) folder w holds = (w, holds)
-was_sound (Err ControlDamaged) folder w holds = (w, holds)
-was_sound (Err (PageDamaged file page)) folder w holds = (w, holds)
-was_sound (Err (FileMissing file)) folder w holds = (w, holds)
-was_sound (Err TooManyTables) folder w holds = (w, holds)
+was_sound (Err (why.Fault (Memory error))) folder w holds = tt
+was_sound (Err (why.Fault Disk)) folder w holds = tt
+was_sound (Err (why.Fault (LogDamaged file page))) folder w holds = tt
+was_sound (Err (why.Fault (NotOurs file))) folder w holds = tt
+was_sound (Err (why.Fault Input)) folder w holds = (w, holds)
+was_sound (Err (why.Fault Tell)) folder w holds = (w, holds)
+was_sound (Err why.TooLong) folder w holds = (w, holds)
+was_sound (Err (why.Fault (LogSpent file))) folder w holds = (w, holds)
+was_sound (Err (why.Fault ControlDamaged)) folder w holds = (w, holds)
+was_sound (Err (why.Fault (PageDamaged file page))) folder w holds = (w, holds)
+was_sound (Err (why.Fault (FileMissing file))) folder w holds = (w, holds)
+was_sound (Err (why.Fault TooManyTables)) folder w holds = (w, holds)
 
 -- with these statuses it was
 pub sound_where : (r : Result Bool Stop) (folder : Folder) (status : ℕ) → WasSound r folder → IsEnd r status → (status ≤ 1) ⊎ (6 ≤ status) → (world : World) × Holds folder world
@@ -408,15 +408,15 @@ sound_where r folder status sound end which =
   where
     of : (o : Result Bool Stop) → WasSound o folder → (status_of_run o ≤ 1) ⊎ (6 ≤ status_of_run o) → (world : World) × Holds folder world
     of (Ok refused) held some = held
-    of (Err Memory) held some = absurd (⊎_elim (λ low. omega (arith, low)) (λ high. omega (arith, high)) some)
-    of (Err Disk) held some = absurd (⊎_elim (λ low. omega (arith, low)) (λ high. omega (arith, high)) some)
-    of (Err (LogDamaged file page)) held some = absurd (⊎_elim (λ low. omega (arith, low)) (λ high. omega (arith, high)) some)
-    of (Err (NotOurs file)) held some = absurd (⊎_elim (λ low. omega (arith, low)) (λ high. omega (arith, high)) some)
-    of (Err Input) held some = held
-    of (Err Tell) held some = held
-    of (Err TooLong) held some = held
-    of (Err (LogSpent file)) held some = held
-    of (Err ControlDamaged) held some = absurd (⊎_elim (λ low. omega (arith, low)) (λ high. omega (arith, high)) some)
-    of (Err (PageDamaged file page)) held some = absurd (⊎_elim (λ low. omega (arith, low)) (λ high. omega (arith, high)) some)
-    of (Err (FileMissing file)) held some = absurd (⊎_elim (λ low. omega (arith, low)) (λ high. omega (arith, high)) some)
-    of (Err TooManyTables) held some = held
+    of (Err (why.Fault (Memory error))) held some = absurd (⊎_elim (λ low. omega (arith, low)) (λ high. omega (arith, high)) some)
+    of (Err (why.Fault Disk)) held some = absurd (⊎_elim (λ low. omega (arith, low)) (λ high. omega (arith, high)) some)
+    of (Err (why.Fault (LogDamaged file page))) held some = absurd (⊎_elim (λ low. omega (arith, low)) (λ high. omega (arith, high)) some)
+    of (Err (why.Fault (NotOurs file))) held some = absurd (⊎_elim (λ low. omega (arith, low)) (λ high. omega (arith, high)) some)
+    of (Err (why.Fault Input)) held some = held
+    of (Err (why.Fault Tell)) held some = held
+    of (Err why.TooLong) held some = held
+    of (Err (why.Fault (LogSpent file))) held some = held
+    of (Err (why.Fault ControlDamaged)) held some = absurd (⊎_elim (λ low. omega (arith, low)) (λ high. omega (arith, high)) some)
+    of (Err (why.Fault (PageDamaged file page))) held some = absurd (⊎_elim (λ low. omega (arith, low)) (λ high. omega (arith, high)) some)
+    of (Err (why.Fault (FileMissing file))) held some = absurd (⊎_elim (λ low. omega (arith, low)) (λ high. omega (arith, high)) some)
+    of (Err (why.Fault TooManyTables)) held some = held

@@ -1,19 +1,18 @@
 -- That files other than the log's stay as they are, and that nothing is changed at a damage or at bad words.
-use Rattle.std.proofs.Common.{◌≡◌, ◌⊎◌, ⊎_elim, ℕ, zero, suc, ◌≤◌, Bool, false, true, Option, None, List, [], ◌++◌, take, IsTrue, Result, Ok, Err, refl, sym, ap, subst, ◌∙◌, arith}
+use Rattle.std.proofs.Common.{◌≡◌, ⊎_elim, ℕ, zero, suc, ◌≤◌, Bool, false, true, None, List, [], ◌++◌, take, IsTrue, Result, Ok, Err, refl, sym, ap, ◌∙◌, arith}
 use Rattle.std.specs.Prelude.{IfErr}
 use Rattle.std.proofs.lemmas.List.{append-nil}
-use Rattle.aria_host.specs.declared.host.Stream.TheVariants as streams
 use Rattle.aria_host.specs.Folder.{Folder}
 use Rattle.aria_host.specs.State.{State, LeavesOnly, Elapses}
-use Rattle.aria_host.specs.Calls.{Narrows, Tells}
+use Rattle.aria_host.specs.Calls.{Narrows}
 use Rattle.aria_host.proofs.Moments.{OnlyNow, started, goes_on, joined, weakened}
 use Rattle.aria_journal.specs.Log.{AtLog}
-use Rattle.aria_engine.specs.declared.store.Store.{Store}
 use Rattle.aria_engine.specs.Holds.{IsLogAlone, AreLogAlone}
 use Rattle.aria_engine.specs.Opening.{ChangesLogAlone}
 use Rattle.aria_tools.specs.declared.stop.Stop.{Stop}
-use Rattle.aria_tools.specs.declared.stop.Stop.TheVariants.{Memory, Disk, LogDamaged, NotOurs, Input, Tell, TooLong, LogSpent, ControlDamaged, PageDamaged, FileMissing, TooManyTables}
-use Rattle.aria_tools.specs.Stops.{named_fault, status_of}
+use Rattle.aria_host.specs.declared.fault.Fault.TheVariants.{Memory, Disk, LogDamaged, NotOurs, Input, Tell, LogSpent, ControlDamaged, PageDamaged, FileMissing, TooManyTables}
+use Rattle.aria_tools.specs.declared.stop.Stop.TheVariants as why
+use Rattle.aria_tools.specs.Stops.{named_fault}
 use Rattle.aria_tools.specs.Endings.{Supply, Ends, Began, BeganButLog, ChangesNothing, LeavesOtherFiles, TellsErr, IsEnd, status_of_run}
 use Rattle.aria_tools.proofs.Commands.{moments_after}
 
@@ -60,11 +59,11 @@ began_still h h0 only time no_more =
     (λ c n leaves. (no_more c leaves, ap (λ (l : List ℕ). h.out ++ l) (nothing_of n) ∙ append-nil h.out))
 
 -- only a line on standard error is told
-pub told_nothing : (text : List ℕ) (done : Bool) (h h1 : State) → OnlyNow h → Tells streams.Err text h h1 done → ChangesNothing h h1
-told_nothing text done h h1 only tells = record {
+pub told_nothing : (h h1 : State) → OnlyNow h → ((c : Folder) → h.moment ≤ h.moment → h.may_leave c → h.since h.moment c h.out) → TellsErr h h1 → ChangesNothing h h1
+told_nothing h h1 only counts tells = record {
   folder = tells.folder;
   images = tells.images.no_more;
-  moments = began_still h h1 only tells.time tells.images.no_more;
+  moments = moments_after (Began h) h h h1 counts (started h (Began h) (λ c told left. only c told left)) tells;
 }
 
 -- and so no file is changed
@@ -90,32 +89,32 @@ ended_five r status end five = ⊎_elim (λ (is : status ≡ status_of_run r). s
 pub ended_damage : (ti to : Bool) (s0 s1 : Supply) (r : Result Bool Stop) (h h0 : State) → Ends ti to s0 s1 r h h0 → status_of_run r ≡ 5 → IsTrue to → Narrows h h0
 ended_damage ti to s0 s1 (Ok true) h h0 ends five told = absurd (omega (arith, five))
 ended_damage ti to s0 s1 (Ok false) h h0 ends five told = absurd (omega (arith, five))
-ended_damage ti to s0 s1 (Err Memory) h h0 ends five told = absurd (omega (arith, five))
-ended_damage ti to s0 s1 (Err Disk) h h0 ends five told = absurd (omega (arith, five))
-ended_damage ti to s0 s1 (Err (LogDamaged file page)) h h0 ends five told = (ends.1 told).1
-ended_damage ti to s0 s1 (Err (NotOurs file)) h h0 ends five told = (ends.1 told).1
-ended_damage ti to s0 s1 (Err Input) h h0 ends five told = absurd (omega (arith, five))
-ended_damage ti to s0 s1 (Err Tell) h h0 ends five told = absurd (omega (arith, five))
-ended_damage ti to s0 s1 (Err TooLong) h h0 ends five told = absurd (omega (arith, five))
-ended_damage ti to s0 s1 (Err (LogSpent file)) h h0 ends five told = absurd ends
-ended_damage ti to s0 s1 (Err ControlDamaged) h h0 ends five told = absurd ends
-ended_damage ti to s0 s1 (Err (PageDamaged file page)) h h0 ends five told = absurd ends
-ended_damage ti to s0 s1 (Err (FileMissing file)) h h0 ends five told = absurd ends
-ended_damage ti to s0 s1 (Err TooManyTables) h h0 ends five told = absurd ends
+ended_damage ti to s0 s1 (Err (why.Fault (Memory error))) h h0 ends five told = absurd (omega (arith, five))
+ended_damage ti to s0 s1 (Err (why.Fault Disk)) h h0 ends five told = absurd (omega (arith, five))
+ended_damage ti to s0 s1 (Err (why.Fault (LogDamaged file page))) h h0 ends five told = (ends.1 told).1
+ended_damage ti to s0 s1 (Err (why.Fault (NotOurs file))) h h0 ends five told = (ends.1 told).1
+ended_damage ti to s0 s1 (Err (why.Fault Input)) h h0 ends five told = absurd (omega (arith, five))
+ended_damage ti to s0 s1 (Err (why.Fault Tell)) h h0 ends five told = absurd (omega (arith, five))
+ended_damage ti to s0 s1 (Err why.TooLong) h h0 ends five told = absurd (omega (arith, five))
+ended_damage ti to s0 s1 (Err (why.Fault (LogSpent file))) h h0 ends five told = absurd ends
+ended_damage ti to s0 s1 (Err (why.Fault ControlDamaged)) h h0 ends five told = absurd ends
+ended_damage ti to s0 s1 (Err (why.Fault (PageDamaged file page))) h h0 ends five told = absurd ends
+ended_damage ti to s0 s1 (Err (why.Fault (FileMissing file))) h h0 ends five told = absurd ends
+ended_damage ti to s0 s1 (Err (why.Fault TooManyTables)) h h0 ends five told = absurd ends
 
 -- no run on a store that was opened has it
 pub no_five : (r : Result Bool Stop) → IfErr r (λ stop. named_fault stop ≡ None) → status_of_run r ≡ 5 → ⊥
 no_five (Ok true) sound five = omega (arith, five)
 no_five (Ok false) sound five = omega (arith, five)
-no_five (Err Memory) sound five = omega (arith, five)
-no_five (Err Disk) sound five = omega (arith, five)
-no_five (Err (LogDamaged file page)) sound five = cc
-no_five (Err (NotOurs file)) sound five = cc
-no_five (Err Input) sound five = omega (arith, five)
-no_five (Err Tell) sound five = omega (arith, five)
-no_five (Err TooLong) sound five = omega (arith, five)
-no_five (Err (LogSpent file)) sound five = omega (arith, five)
-no_five (Err ControlDamaged) sound five = cc
-no_five (Err (PageDamaged file page)) sound five = cc
-no_five (Err (FileMissing file)) sound five = cc
-no_five (Err TooManyTables) sound five = omega (arith, five)
+no_five (Err (why.Fault (Memory error))) sound five = omega (arith, five)
+no_five (Err (why.Fault Disk)) sound five = omega (arith, five)
+no_five (Err (why.Fault (LogDamaged file page))) sound five = cc
+no_five (Err (why.Fault (NotOurs file))) sound five = cc
+no_five (Err (why.Fault Input)) sound five = omega (arith, five)
+no_five (Err (why.Fault Tell)) sound five = omega (arith, five)
+no_five (Err why.TooLong) sound five = omega (arith, five)
+no_five (Err (why.Fault (LogSpent file))) sound five = omega (arith, five)
+no_five (Err (why.Fault ControlDamaged)) sound five = cc
+no_five (Err (why.Fault (PageDamaged file page))) sound five = cc
+no_five (Err (why.Fault (FileMissing file))) sound five = cc
+no_five (Err (why.Fault TooManyTables)) sound five = omega (arith, five)

@@ -5,7 +5,8 @@ use Rattle.aria_host.specs.State.{State}
 use Rattle.aria_model.specs.Script.{lines_of, ended_lines}
 use Rattle.aria_model.proofs.Lines.{ended_lines-front}
 use Rattle.aria_tools.specs.declared.stop.Stop.{Stop}
-use Rattle.aria_tools.specs.declared.stop.Stop.TheVariants.{Memory, Disk, LogDamaged, NotOurs, Input, Tell, TooLong, LogSpent, ControlDamaged, PageDamaged, FileMissing, TooManyTables}
+use Rattle.aria_host.specs.declared.fault.Fault.TheVariants.{Memory, Disk, LogDamaged, NotOurs, Input, Tell, LogSpent, ControlDamaged, PageDamaged, FileMissing, TooManyTables}
+use Rattle.aria_tools.specs.declared.stop.Stop.TheVariants as why
 use Rattle.aria_tools.specs.Held.{Splits}
 use Rattle.aria_engine.specs.declared.store.Store.{Store}
 use Rattle.aria_engine.specs.Store.{SameFaults, NoFewerFaults}
@@ -88,17 +89,17 @@ took_few ti to taken read rest st0 st1 r0 r1 h0 h1 s0 s1 reached =
 -- the cause where no further piece comes
 pub no_piece_stops : (ti to : Bool) (stop : Stop) (taken : ℕ) (read rest : List ℕ) (st0 st1 : Store) (r0 r1 : Bool) (h0 h1 : State) (s0 s1 s2 : Supply)
     → Reached ti to taken read rest st0 st1 r0 r1 h0 h1 s0 s1 → NoPiece ti stop taken s1 s2 → LineStops ti to stop s0 s2 st0 st1 h0 h1
-no_piece_stops ti to Memory taken read rest st0 st1 r0 r1 h0 h1 s0 s1 s2 reached none = absurd none
-no_piece_stops ti to Disk taken read rest st0 st1 r0 r1 h0 h1 s0 s1 s2 reached none = absurd none
-no_piece_stops ti to (LogDamaged file page) taken read rest st0 st1 r0 r1 h0 h1 s0 s1 s2 reached none = absurd none
-no_piece_stops ti to (NotOurs file) taken read rest st0 st1 r0 r1 h0 h1 s0 s1 s2 reached none = absurd none
-no_piece_stops ti to Tell taken read rest st0 st1 r0 r1 h0 h1 s0 s1 s2 reached none = absurd none
-no_piece_stops ti to (LogSpent file) taken read rest st0 st1 r0 r1 h0 h1 s0 s1 s2 reached none = absurd none
-no_piece_stops ti to ControlDamaged taken read rest st0 st1 r0 r1 h0 h1 s0 s1 s2 reached none = absurd none
-no_piece_stops ti to (PageDamaged file page) taken read rest st0 st1 r0 r1 h0 h1 s0 s1 s2 reached none = absurd none
-no_piece_stops ti to (FileMissing file) taken read rest st0 st1 r0 r1 h0 h1 s0 s1 s2 reached none = absurd none
-no_piece_stops ti to TooManyTables taken read rest st0 st1 r0 r1 h0 h1 s0 s1 s2 reached none = absurd none
-no_piece_stops ti to Input taken read rest st0 st1 r0 r1 h0 h1 s0 s1 s2 reached none = record {
+no_piece_stops ti to (why.Fault (Memory error)) taken read rest st0 st1 r0 r1 h0 h1 s0 s1 s2 reached none = absurd none
+no_piece_stops ti to (why.Fault Disk) taken read rest st0 st1 r0 r1 h0 h1 s0 s1 s2 reached none = absurd none
+no_piece_stops ti to (why.Fault (LogDamaged file page)) taken read rest st0 st1 r0 r1 h0 h1 s0 s1 s2 reached none = absurd none
+no_piece_stops ti to (why.Fault (NotOurs file)) taken read rest st0 st1 r0 r1 h0 h1 s0 s1 s2 reached none = absurd none
+no_piece_stops ti to (why.Fault Tell) taken read rest st0 st1 r0 r1 h0 h1 s0 s1 s2 reached none = absurd none
+no_piece_stops ti to (why.Fault (LogSpent file)) taken read rest st0 st1 r0 r1 h0 h1 s0 s1 s2 reached none = absurd none
+no_piece_stops ti to (why.Fault ControlDamaged) taken read rest st0 st1 r0 r1 h0 h1 s0 s1 s2 reached none = absurd none
+no_piece_stops ti to (why.Fault (PageDamaged file page)) taken read rest st0 st1 r0 r1 h0 h1 s0 s1 s2 reached none = absurd none
+no_piece_stops ti to (why.Fault (FileMissing file)) taken read rest st0 st1 r0 r1 h0 h1 s0 s1 s2 reached none = absurd none
+no_piece_stops ti to (why.Fault TooManyTables) taken read rest st0 st1 r0 r1 h0 h1 s0 s1 s2 reached none = absurd none
+no_piece_stops ti to (why.Fault Input) taken read rest st0 st1 r0 r1 h0 h1 s0 s1 s2 reached none = record {
   cause = (
     subst (λ (n : ℕ). n ≤ s0.taken + 2 ^ 40) (sym none.2) (took_few ti to taken read rest st0 st1 r0 r1 h0 h1 s0 s1 reached),
     rose_since s0.faults s1.faults s2.faults (2 ^ 64 - 1) reached.faults none.0,
@@ -106,7 +107,7 @@ no_piece_stops ti to Input taken read rest st0 st1 r0 r1 h0 h1 s0 s1 s2 reached 
   sound = refl;
   by = λ h told xs met. (read, reached.took.bytes_left h ∙ ap (λ (l : List ℕ). read ++ l) (sym none.1), (reached.fed.does.all xs met).out told);
 }
-no_piece_stops ti to TooLong taken read rest st0 st1 r0 r1 h0 h1 s0 s1 s2 reached none =
+no_piece_stops ti to why.TooLong taken read rest st0 st1 r0 r1 h0 h1 s0 s1 s2 reached none =
     let full : length read ≡ 2 ^ 40 = reached.size ∙ none.0 in
     record {
       cause = counts_more s0.taken s1.taken s2.taken (2 ^ 40) 1 (subst (λ (n : ℕ). Counts s0.taken n s1.taken) full reached.took.number) none.1;
@@ -117,18 +118,18 @@ no_piece_stops ti to TooLong taken read rest st0 st1 r0 r1 h0 h1 s0 s1 s2 reache
 -- the cause where the execution of a line stops
 pub line_stops : (ti to : Bool) (stop : Stop) (s0 s1 : Supply) (st0 st2 : Store) (h0 h1 h2 : State)
     → TookFew s0 s1 → SameFaults h0 h1 → IsLineStop stop h1 h2 → LineStops ti to stop s0 s1 st0 st2 h0 h2
-line_stops ti to Memory s0 s1 st0 st2 h0 h1 h2 few same is = record { cause = few; sound = refl; by = λ h told xs met. tt }
-line_stops ti to Disk s0 s1 st0 st2 h0 h1 h2 few same is = record { cause = (few, rose_since h0.disk_faults h1.disk_faults h2.disk_faults (2 ^ 64 - 1) same.disk is); sound = refl; by = λ h told xs met. tt }
-line_stops ti to (LogDamaged file page) s0 s1 st0 st2 h0 h1 h2 few same is = absurd is
-line_stops ti to (NotOurs file) s0 s1 st0 st2 h0 h1 h2 few same is = absurd is
-line_stops ti to Input s0 s1 st0 st2 h0 h1 h2 few same is = absurd is
-line_stops ti to Tell s0 s1 st0 st2 h0 h1 h2 few same is = record { cause = (few, rose_since h0.tell_faults h1.tell_faults h2.tell_faults (2 ^ 64 - 1) same.tell is); sound = refl; by = λ h told xs met. tt }
-line_stops ti to TooLong s0 s1 st0 st2 h0 h1 h2 few same is = absurd is
-line_stops ti to (LogSpent file) s0 s1 st0 st2 h0 h1 h2 few same is = absurd is
-line_stops ti to ControlDamaged s0 s1 st0 st2 h0 h1 h2 few same is = absurd is
-line_stops ti to (PageDamaged file page) s0 s1 st0 st2 h0 h1 h2 few same is = absurd is
-line_stops ti to (FileMissing file) s0 s1 st0 st2 h0 h1 h2 few same is = absurd is
-line_stops ti to TooManyTables s0 s1 st0 st2 h0 h1 h2 few same is = absurd is
+line_stops ti to (why.Fault (Memory error)) s0 s1 st0 st2 h0 h1 h2 few same is = record { cause = few; sound = refl; by = λ h told xs met. tt }
+line_stops ti to (why.Fault Disk) s0 s1 st0 st2 h0 h1 h2 few same is = record { cause = (few, rose_since h0.disk_faults h1.disk_faults h2.disk_faults (2 ^ 64 - 1) same.disk is); sound = refl; by = λ h told xs met. tt }
+line_stops ti to (why.Fault (LogDamaged file page)) s0 s1 st0 st2 h0 h1 h2 few same is = absurd is
+line_stops ti to (why.Fault (NotOurs file)) s0 s1 st0 st2 h0 h1 h2 few same is = absurd is
+line_stops ti to (why.Fault Input) s0 s1 st0 st2 h0 h1 h2 few same is = absurd is
+line_stops ti to (why.Fault Tell) s0 s1 st0 st2 h0 h1 h2 few same is = record { cause = (few, rose_since h0.tell_faults h1.tell_faults h2.tell_faults (2 ^ 64 - 1) same.tell is); sound = refl; by = λ h told xs met. tt }
+line_stops ti to why.TooLong s0 s1 st0 st2 h0 h1 h2 few same is = absurd is
+line_stops ti to (why.Fault (LogSpent file)) s0 s1 st0 st2 h0 h1 h2 few same is = absurd is
+line_stops ti to (why.Fault ControlDamaged) s0 s1 st0 st2 h0 h1 h2 few same is = absurd is
+line_stops ti to (why.Fault (PageDamaged file page)) s0 s1 st0 st2 h0 h1 h2 few same is = absurd is
+line_stops ti to (why.Fault (FileMissing file)) s0 s1 st0 st2 h0 h1 h2 few same is = absurd is
+line_stops ti to (why.Fault TooManyTables) s0 s1 st0 st2 h0 h1 h2 few same is = absurd is
 
 -- no fault was counted in one run and then another
 pub same_faults_more : (a b c : State) → SameFaults a b → SameFaults b c → SameFaults a c

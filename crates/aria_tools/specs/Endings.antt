@@ -1,5 +1,5 @@
 -- How a run ends: what of the input was taken, what was told of it, what a crash may leave, and why it stopped.
-use Rattle.std.specs.Prelude.{◌≡◌, ◌≢◌, ◌⊎◌, Some, ℕ, ◌+◌, ◌-◌, ◌^◌, ◌≤◌, min, Bool, IsTrue, ◌==◌, if◌then◌else◌, List, [], ◌∷◌, ◌++◌, take, drop, length, codes, Result, Ok, Err, OnOk, false, true}
+use Rattle.std.specs.Prelude.{◌≡◌, ◌≢◌, ◌⊎◌, ℕ, ◌+◌, ◌-◌, ◌^◌, ◌≤◌, min, Bool, IsTrue, List, [], ◌∷◌, ◌++◌, take, drop, length, Result, Ok, Err, OnOk, false, true}
 use Rattle.aria_host.specs.Count.{Rose}
 use Rattle.aria_host.specs.State.{Folder, State, LeavesOnly}
 use Rattle.aria_host.specs.Calls.{SameImages, Narrows}
@@ -18,8 +18,9 @@ use Rattle.aria_engine.specs.Holds.{Holds, IsDamage, IsLogAlone, AreLogAlone, At
 use Rattle.aria_engine.specs.Store.{SameFaults}
 use Rattle.aria_engine.specs.Done.{Leaves}
 use Rattle.aria_tools.specs.declared.stop.Stop.{Stop}
-use Rattle.aria_tools.specs.declared.stop.Stop.TheVariants.{Memory, Disk, LogDamaged, NotOurs, Input, Tell, TooLong}
-use Rattle.aria_tools.specs.Stops.{status_of, fault_text, named_fault, NamesFault}
+use Rattle.aria_tools.specs.declared.stop.Stop.TheVariants as why
+use Rattle.aria_tools.specs.Statuses.{status_text, fault_text, is_named, NamesFault}
+use Rattle.aria_tools.specs.Stops.{status_of}
 
 -- a source as contracts see it: the bytes that are left, how many were taken, and how often it failed
 pub record Supply : Type 0 where
@@ -42,21 +43,19 @@ abbrev pub TookFew : Supply → Supply → Type 0
 TookFew before now = now.taken ≤ before.taken + 2 ^ 40
 
 -- this damage stands in the folder, in which nothing is changed
-abbrev pub IsFoundDamaged : Bool → Stop → State → State → Type 0
-IsFoundDamaged tells (LogDamaged file page) before now = IsTrue tells → IsDamage (faults.LogDamaged file page) before.folder × Narrows before now
-IsFoundDamaged tells (NotOurs file) before now = IsTrue tells → IsDamage (faults.NotOurs file) before.folder × Narrows before now
-IsFoundDamaged tells _ before now = ⊥
+abbrev pub IsFoundDamaged : Bool → Fault → State → State → Type 0
+IsFoundDamaged tells fault before now = IsTrue tells → IsDamage fault before.folder × Narrows before now
 
 -- the cause of each reason to stop
 abbrev pub StopsBy : Bool → Stop → Supply → Supply → State → State → Type 0
-StopsBy told Memory supply supply_now before now = TookFew supply supply_now
-StopsBy told Disk supply supply_now before now = TookFew supply supply_now × Rose before.disk_faults now.disk_faults
-StopsBy told (LogDamaged file page) supply supply_now before now = (supply_now ≡ supply) × IsFoundDamaged told (LogDamaged file page) before now
-StopsBy told (NotOurs file) supply supply_now before now = (supply_now ≡ supply) × IsFoundDamaged told (NotOurs file) before now
-StopsBy told Input supply supply_now before now = TookFew supply supply_now × Rose supply.faults supply_now.faults
-StopsBy told Tell supply supply_now before now = TookFew supply supply_now × Rose before.tell_faults now.tell_faults
-StopsBy told TooLong supply supply_now before now = Counts supply.taken (2 ^ 40 + 1) supply_now.taken
-StopsBy told _ supply supply_now before now = ⊥
+StopsBy told (why.Fault (faults.Memory error)) supply supply_now before now = TookFew supply supply_now
+StopsBy told (why.Fault faults.Disk) supply supply_now before now = TookFew supply supply_now × Rose before.disk_faults now.disk_faults
+StopsBy told (why.Fault (faults.LogDamaged file page)) supply supply_now before now = (supply_now ≡ supply) × IsFoundDamaged told (faults.LogDamaged file page) before now
+StopsBy told (why.Fault (faults.NotOurs file)) supply supply_now before now = (supply_now ≡ supply) × IsFoundDamaged told (faults.NotOurs file) before now
+StopsBy told (why.Fault faults.Input) supply supply_now before now = TookFew supply supply_now × Rose supply.faults supply_now.faults
+StopsBy told (why.Fault faults.Tell) supply supply_now before now = TookFew supply supply_now × Rose before.tell_faults now.tell_faults
+StopsBy told (why.Fault _) supply supply_now before now = ⊥
+StopsBy told why.TooLong supply supply_now before now = Counts supply.taken (2 ^ 40 + 1) supply_now.taken
 
 -- The whole input was read, and no fault was counted.
 pub record ReadsAll (tells : Bool) (supply supply_now : Supply) (before now : State) : Type 0 where
@@ -73,10 +72,10 @@ Ends tells told_too supply supply_now (Err stop) before now = StopsBy told_too s
 -- The folder held tables as the run began, but where it stopped as its store was opened, or may have.
 abbrev pub WasSound : Result Bool Stop → Folder → Type 0
 WasSound (Ok refused) folder = (world : World) × Holds folder world
-WasSound (Err Memory) folder = Unit {0}
-WasSound (Err Disk) folder = Unit {0}
-WasSound (Err (LogDamaged file page)) folder = Unit {0}
-WasSound (Err (NotOurs file)) folder = Unit {0}
+WasSound (Err (why.Fault (faults.Memory error))) folder = Unit {0}
+WasSound (Err (why.Fault faults.Disk)) folder = Unit {0}
+WasSound (Err (why.Fault (faults.LogDamaged file page))) folder = Unit {0}
+WasSound (Err (why.Fault (faults.NotOurs file))) folder = Unit {0}
 WasSound (Err _) folder = (world : World) × Holds folder world
 
 -- The lines that LF ends in the bytes that were taken are answered.
@@ -92,8 +91,8 @@ AnswersFull supply supply_now world exceptions before now =
 
 -- what is answered where a run stops for this reason
 abbrev pub AnswersBy : Stop → Supply → Supply → World → Exceptions → State → State → Type 0
-AnswersBy Input supply supply_now world exceptions before now = AnswersEnded supply supply_now world exceptions before now
-AnswersBy TooLong supply supply_now world exceptions before now = AnswersFull supply supply_now world exceptions before now
+AnswersBy (why.Fault faults.Input) supply supply_now world exceptions before now = AnswersEnded supply supply_now world exceptions before now
+AnswersBy why.TooLong supply supply_now world exceptions before now = AnswersFull supply supply_now world exceptions before now
 AnswersBy _ supply supply_now world exceptions before now = Unit {0}
 
 -- Each line of the input is answered, so many statements; the folder is at rest and holds the tables after all of them.
@@ -196,16 +195,6 @@ status_of_run (Err stop) = status_of stop
 abbrev pub IsStatus : ℕ → Type 0
 IsStatus status = status ≤ 8
 
--- the line on standard error for a status, but for those that name a fault
-abbrev pub status_text : ℕ → List ℕ
-status_text status =
-    if status == 2 then codes "aria: bad words\n" else
-    if status == 3 then codes "aria: want of memory\n" else
-    if status == 4 then codes "aria: disk fault\n" else
-    if status == 6 then codes "aria: input fault\n" else
-    if status == 8 then codes "aria: input too long\n" else
-    if status == 10 then codes "aria: too many tables\n" else []
-
 -- the line on standard error for a status; at 5 it names the damage of the folder
 abbrev pub IsStatusText : ℕ → Folder → List ℕ → Type 0
 IsStatusText status folder text =
@@ -235,4 +224,5 @@ IsEnd result status = (status ≡ status_of_run result) ⊎ ((status ≡ 3) × N
 -- the line on standard error of an ended run
 abbrev pub IsEndText : Result Bool Stop → ℕ → List ℕ → Type 0
 IsEndText result status text =
-    ((¬ NamesFault status) × (text ≡ status_text status)) ⊎ ((stop : Stop) × (fault : Fault) × (result ≡ Err stop) × (named_fault stop ≡ Some fault) × (status ≡ status_of stop) × (text ≡ fault_text fault))
+    ((¬ NamesFault status) × (text ≡ status_text status))
+    ⊎ ((fault : Fault) × (result ≡ Err (why.Fault fault)) × IsTrue (is_named fault) × (status ≡ status_of (why.Fault fault)) × (text ≡ fault_text fault))

@@ -1,5 +1,6 @@
 pub mod Words
 pub mod Held
+pub mod Statuses
 pub mod Stops
 pub mod Endings
 pub mod Pieces

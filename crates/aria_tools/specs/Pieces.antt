@@ -2,7 +2,8 @@
 use Rattle.std.specs.Prelude.{◌≡◌, ◌↔◌, ℕ, ◌+◌, ◌^◌, ◌≤◌, Bool, IsTrue, None, List, [], ◌∷◌, ◌++◌, take, length}
 use Rattle.aria_host.specs.Count.{Rose}
 use Rattle.aria_tools.specs.declared.stop.Stop.{Stop}
-use Rattle.aria_tools.specs.declared.stop.Stop.TheVariants.{Input, TooLong}
+use Rattle.aria_tools.specs.declared.stop.Stop.TheVariants as why
+use Rattle.aria_host.specs.declared.fault.Fault.TheVariants as faults
 use Rattle.aria_host.specs.State.{State}
 use Rattle.aria_model.specs.Script.{ended_lines}
 use Rattle.aria_tools.specs.Held.{Splits}
@@ -30,8 +31,8 @@ pub record TakesPiece (tells : Bool) (n taken : ℕ) (piece : List ℕ) (before 
 
 -- The input failed and nothing was taken, or a byte came behind so many as an input may have.
 abbrev pub NoPiece : Bool → Stop → ℕ → Supply → Supply → Type 0
-NoPiece tells Input taken before now = Rose before.faults now.faults × (now.left ≡ before.left) × (now.taken ≡ before.taken)
-NoPiece tells TooLong taken before now = (taken ≡ 2 ^ 40) × Counts before.taken 1 now.taken
+NoPiece tells (why.Fault faults.Input) taken before now = Rose before.faults now.faults × (now.left ≡ before.left) × (now.taken ≡ before.taken)
+NoPiece tells why.TooLong taken before now = (taken ≡ 2 ^ 40) × Counts before.taken 1 now.taken
     × (IsTrue tells → (further : ℕ) × (before.left ≡ further ∷ now.left))
 NoPiece tells _ taken before now = ⊥
 

@@ -16,10 +16,11 @@ ghost use Rattle.aria_tools.specs.Endings.{AnswersEnded, AnswersFull, BeganOrPre
 ghost use Rattle.aria_tools.specs.Pieces.{supply};
 ghost use Rattle.aria_tools.specs.Words.{IsRun};
 
-use crate::ending::end;
+use crate::ending::{end, end_with};
 use crate::reading::run;
+use crate::status::Status;
 use crate::words::WordList;
-use aria_host::{Host, Source, Stream};
+use aria_host::{Host, Source};
 use aria_model::Met;
 use aria_page::List as Seq;
 use std::alloc::Global;
@@ -133,9 +134,8 @@ pub fn aria<H: Host, S: Source>(
     ensures error_text { IsTrue H.tells → TellsStatus result.status (H.state host.old) (H.state host.new) }
 {
     if !words.is_run() {
-        let _ = host.tell(Stream::Err, b"aria: bad words\n");
         return Ended {
-            status: 2,
+            status: end_with(host, Status::BadWords),
             met: Seq::new(alloc),
         };
     }

@@ -1,33 +1,19 @@
-//! Ends a run: the status, and the line on standard error.
+//! Ends a command: its line on standard error, and its status.
 
 ghost use Rattle.std.specs.Prelude.{◌≡◌, ◌≤◌, ◌∷◌, ◌++◌, [], List, ℕ, IsTrue, IfOk, OnErr, Err, Ok, false, true, codes, decimal};
-ghost use Rattle.std.specs.Prelude.{None, Some};
-ghost use Rattle.std.specs.Option.{option_map};
+ghost use Rattle.std.specs.Prelude.{None, Some, if◌then◌else◌};
 ghost use Rattle.aria_host.specs.declared.fault.Fault.TheVariants as faults;
 ghost use Rattle.aria_host.specs.FileText.{file_text};
-ghost use Rattle.aria_tools.specs.Endings.{IsEnd, IsEndText, TellsErr, TellsText, status_text};
-ghost use Rattle.aria_tools.specs.Stops.{NamesFault, fault_text, named_fault, status_of};
+ghost use Rattle.aria_tools.specs.declared.stop.Stop.TheVariants as why;
+ghost use Rattle.aria_tools.specs.Endings.{IsEnd, IsEndText, TellsErr, TellsText};
+ghost use Rattle.aria_tools.specs.Statuses.{NamesFault, code_of, fault_text, is_named, status_at, status_text};
 
+use crate::status::Status;
 use crate::stop::Stop;
-use aria_host::{FileName, Host, Stream};
+use aria_host::{Fault, FileName, Host, Stream};
 use aria_page::Bytes;
 use itoa::Buffer;
 use std::alloc::{AllocError, Global};
-
-// The line for a status.
-fn status_text(status: u8) -> &'static [u8]
-    ensures { result.now ≡ status_text status }
-{
-    match status {
-        2 => b"aria: bad words\n",
-        3 => b"aria: want of memory\n",
-        4 => b"aria: disk fault\n",
-        6 => b"aria: input fault\n",
-        8 => b"aria: input too long\n",
-        10 => b"aria: too many tables\n",
-        _ => b"",
-    }
-}
 
 // These words and a file's name, as one line.
 fn file_line(alloc: Global, words: &[u8], file: &FileName) -> Result<Bytes, AllocError>
@@ -64,20 +50,20 @@ fn log_spent_line(alloc: Global, file: u32) -> Result<Bytes, AllocError>
     Ok(line)
 }
 
-// The line that names the fault, where a run stopped at one that is named.
-fn fault_text(alloc: Global, stop: &Stop) -> Result<Option<Bytes>, AllocError>
-    ensures text { IfOk result (λ text. text ≡ option_map fault_text (named_fault stop.now)) }
-    ensures memory { OnErr result (NamesFault (status_of stop.now)) }
+// The line that names a fault, where the line of its status does.
+fn fault_text(alloc: Global, fault: &Fault) -> Result<Option<Bytes>, AllocError>
+    ensures text { IfOk result (λ text. text ≡ (if is_named fault.now then Some (fault_text fault.now) else None)) }
+    ensures memory { OnErr result (NamesFault (code_of (status_at fault.now))) }
 {
-    Ok(Some(match stop {
-        Stop::LogDamaged { file, page } => {
+    Ok(Some(match fault {
+        Fault::LogDamaged { file, page } => {
             page_line(alloc, b"aria: damaged log ", &FileName::Log(*file), *page)?
         }
-        Stop::PageDamaged { file, page } => page_line(alloc, b"aria: damaged page ", file, *page)?,
-        Stop::ControlDamaged => Bytes::from_slice(alloc, b"aria: damaged control\n")?,
-        Stop::FileMissing { file } => file_line(alloc, b"aria: missing ", file)?,
-        Stop::NotOurs { file } => file_line(alloc, b"aria: not ours ", file)?,
-        Stop::LogSpent { file } => log_spent_line(alloc, *file)?,
+        Fault::PageDamaged { file, page } => page_line(alloc, b"aria: damaged page ", file, *page)?,
+        Fault::ControlDamaged => Bytes::from_slice(alloc, b"aria: damaged control\n")?,
+        Fault::FileMissing { file } => file_line(alloc, b"aria: missing ", file)?,
+        Fault::NotOurs { file } => file_line(alloc, b"aria: not ours ", file)?,
+        Fault::LogSpent { file } => log_spent_line(alloc, *file)?,
         _ => return Ok(None),
     }))
 }
@@ -92,28 +78,33 @@ fn tell_line<H: Host>(host: &mut H, text: &[u8])
     let _ = host.tell(Stream::Err, text);
 }
 
-// Ends a run that stopped.
-fn end_stopped<H: Host>(alloc: Global, host: &mut H, stop: &Stop) -> u8
-    ensures status { IsEnd (Err stop.now) result }
-    ensures told { IsTrue H.tells → (text : List ℕ) × IsEndText (Err stop.now) result text × TellsText text (H.state host.old) (H.state host.new) }
+/// Ends a command with this status: tells its line on standard error, and gives its code.
+pub fn end_with<H: Host>(host: &mut H, status: Status) -> u8
+    ensures code { result ≡ code_of status }
+    ensures told { IsTrue H.tells → TellsText (status_text (code_of status)) (H.state host.old) (H.state host.new) }
     ensures only { IsTrue H.tells → TellsErr (H.state host.old) (H.state host.new) }
     ensures later { (H.state host.old).tell_faults ≤ (H.state host.new).tell_faults }
     ensures disk { (H.state host.new).disk_faults ≡ (H.state host.old).disk_faults }
 {
-    match fault_text(alloc, stop) {
+    tell_line(host, status.line().as_bytes());
+    status.code()
+}
+
+// Ends a command at a fault. Without memory for a line that names it, it ends with want of memory.
+fn end_at<H: Host>(alloc: Global, host: &mut H, fault: &Fault) -> u8
+    ensures status { IsEnd (Err (why.Fault fault.now)) result }
+    ensures told { IsTrue H.tells → (text : List ℕ) × IsEndText (Err (why.Fault fault.now)) result text × TellsText text (H.state host.old) (H.state host.new) }
+    ensures only { IsTrue H.tells → TellsErr (H.state host.old) (H.state host.new) }
+    ensures later { (H.state host.old).tell_faults ≤ (H.state host.new).tell_faults }
+    ensures disk { (H.state host.new).disk_faults ≡ (H.state host.old).disk_faults }
+{
+    match fault_text(alloc, fault) {
         Ok(Some(text)) => {
             tell_line(host, text.as_slice());
-            stop.status()
+            Status::at(fault).code()
         }
-        Ok(None) => {
-            let status = stop.status();
-            tell_line(host, status_text(status));
-            status
-        }
-        Err(_) => {
-            tell_line(host, status_text(3));
-            3
-        }
+        Ok(None) => end_with(host, Status::at(fault)),
+        Err(_) => end_with(host, Status::Memory),
     }
 }
 
@@ -128,8 +119,9 @@ pub fn end<H: Host>(alloc: Global, host: &mut H, outcome: &Result<bool, Stop>) -
     ensures calm { result ≤ 1 → host.new ≡ host.old }
 {
     match outcome {
-        Ok(false) => 0,
-        Ok(true) => 1,
-        Err(stop) => end_stopped(alloc, host, stop),
+        Ok(false) => Status::Done.code(),
+        Ok(true) => Status::Refused.code(),
+        Err(Stop::TooLong) => end_with(host, Status::TooLong),
+        Err(Stop::Fault(fault)) => end_at(alloc, host, fault),
     }
 }

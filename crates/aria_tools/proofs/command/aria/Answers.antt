@@ -185,10 +185,13 @@ returns-clause-damage_kept g c five to =
 
 pub returns-then-not-is_run-clause-bad_words_kept : goal.returns-then-not-is_run-clause-bad_words_kept
 returns-then-not-is_run-clause-bad_words_kept g c two to =
-    told_nothing _ _ (g.H.Host.state c.args.host.now) (g.H.Host.state c.tell.new.self) (λ f t left. g.met.H.Host.only_now c.args.host.now f t to left) (c.tell.ensures.told to)
+    let old = g.H.Host.state c.args.host.now in
+    told_nothing old (g.H.Host.state c.end_with.new.host) (λ f t left. g.met.H.Host.only_now c.args.host.now f t to left)
+    (λ f low leaves. g.met.H.Host.counts_now c.args.host.now old.moment f to low leaves) (c.end_with.ensures.only to)
 
 pub returns-then-not-is_run-clause-others : goal.returns-then-not-is_run-clause-others
 returns-then-not-is_run-clause-others g c to =
     let old = g.H.Host.state c.args.host.now in
-    let now = g.H.Host.state c.tell.new.self in
-    nothing_others old now (told_nothing _ _ old now (λ f t left. g.met.H.Host.only_now c.args.host.now f t to left) (c.tell.ensures.told to))
+    let now = g.H.Host.state c.end_with.new.host in
+    nothing_others old now (told_nothing old now (λ f t left. g.met.H.Host.only_now c.args.host.now f t to left)
+    (λ f low leaves. g.met.H.Host.counts_now c.args.host.now old.moment f to low leaves) (c.end_with.ensures.only to))

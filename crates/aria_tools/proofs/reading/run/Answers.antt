@@ -3,7 +3,7 @@ use Rattle.aria_engine.specs.Store.{tables_of}
 use Rattle.aria_engine.proofs.Running.{holds_one}
 use Rattle.aria_model.specs.Journal.{met_at}
 use Rattle.aria_tools.specs.declared.stop.Stop.{Stop}
-use Rattle.aria_tools.specs.Stops.{stop_of}
+use Rattle.aria_tools.specs.declared.stop.Stop.TheVariants as why
 use Rattle.aria_tools.specs.Endings.{RunsWhole}
 use Rattle.aria_tools.specs.Pieces.{supply}
 use Rattle.aria_tools.proofs.Commands.{ends_after, runs_after, runs_never, opening_answers, was_sound}
@@ -38,7 +38,7 @@ returns-in-Err-clause-runs g c ti to world reads =
     let now = g.H.Host.state c.open.new.host in
     let met = c.new.result in
     subst (λ (stop : Stop). RunsWhole supply0 supply0 world met (Err stop) old now) (sym c.from.ensures)
-    (runs_never supply0 supply0 world met (stop_of c.in-Err.fault) old now c.new.ensures (c.in-Err.ensures.silent to).out
+    (runs_never supply0 supply0 world met (why.Fault c.in-Err.fault) old now c.new.ensures (c.in-Err.ensures.silent to).out
     (opening_answers g.H.Host.tells c.in-Err.fault supply0 supply0 world (met_at met) old now c.in-Err.ensures.cause) ((c.in-Err.ensures.opens to).moments world reads))
 
 pub returns-in-Ok-clause-others : goal.returns-in-Ok-clause-others

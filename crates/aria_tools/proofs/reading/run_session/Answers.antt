@@ -2,7 +2,9 @@ use Rattle.std.proofs.Common.{Bool, [], Err, refl, ap, subst, ◌∙◌, arith}
 use Rattle.std.proofs.lemmas.Result.{err_from_is_err_and, IfOk-weaker, on_err_weaker}
 use Rattle.aria_model.specs.Script.{lines_of}
 use Rattle.aria_engine.proofs.Doing.{does_none}
-use Rattle.aria_tools.specs.declared.stop.Stop.TheVariants.{Memory}
+use Rattle.std.specs.Prelude.{alloc_error}
+use Rattle.aria_host.specs.declared.fault.Fault.TheVariants.{Memory}
+use Rattle.aria_tools.specs.declared.stop.Stop.TheVariants as why
 use Rattle.aria_tools.specs.Pieces.{Fed, supply}
 use Rattle.aria_tools.proofs.Ready.{ready_now}
 use Rattle.aria_tools.proofs.Runs.{part_alone, stopped_on, finished_on}
@@ -16,7 +18,7 @@ returns-in_err-piece g c = record {
       let before = g.H.Host.state c.args.host.now in
       let none = does_none g.H.Host.tells (lines_of (g.S.Source.left c.args.input.now)) c.args.session.now.store c.args.session.now.store before refl
       (ready_now g.H.Host.tells c.args.session.now.store before c.requires.ready (λ f t told since. g.met.H.Host.only_now c.args.host.now f t told since)) in
-      stopped_on g.S.Source.tells g.H.Host.tells supply0 supply0 c.from_residual.result c.args.session.now.store c.args.session.now.store before before Memory
+      stopped_on g.S.Source.tells g.H.Host.tells supply0 supply0 c.from_residual.result c.args.session.now.store c.args.session.now.store before before (why.Fault (Memory alloc_error))
       (p.1 ∙ ap Err p.2)
       (λ h. none)
       (record { cause = omega arith; sound = refl; by = λ h told xs met. tt })
