@@ -1,5 +1,5 @@
 -- Which texts name no file.
-use Rattle.std.proofs.Common.{◌≡◌, ◌≢◌, ◌==◌, ℕ, ◌+◌, ◌-◌, ◌<◌, ◌^◌, Bool, true, false, IsTrue, List, ◌++◌, length, take, drop, codes, refl, sym, ◌∙◌, ap, subst, arith, length-append}
+use Rattle.std.proofs.Common.{◌≡◌, ◌≢◌, ◌==◌, ℕ, ◌<◌, ◌^◌, false, IsTrue, List, ◌++◌, length, take, drop, codes, refl, sym, ◌∙◌, ap, subst, arith, length-append}
 use Rattle.std.specs.Cmp.Lexicographic.{pointwise, bytes_decides}
 use Rattle.std.proofs.Math.Seq.{take-append_seam}
 use Rattle.std.proofs.lemmas.List.{append_cancel_left, take-append-drop}
@@ -7,7 +7,7 @@ use Rattle.aria_page.specs.Word.{is_word}
 use Rattle.aria_host.specs.declared.file_name.FileName.{FileName}
 use Rattle.aria_host.specs.declared.file_name.FileName.TheVariants.{Control, Log, Keys, Rows, NewKeys, NewRows}
 use Rattle.aria_host.specs.FileText.{file_text, log_text}
-use Rattle.aria_host.specs.Form.{has_word, is_table, IsNamed, NamesNone, NamesNoTable}
+use Rattle.aria_host.specs.Form.{has_word, is_table, NamesNone, NamesNoTable}
 
 -- texts with ends of one length are the same in both parts
 pub same_parts : (a b x y : List ℕ) → length x ≡ length y → a ++ x ≡ b ++ y → (a ≡ b) × (x ≡ y)

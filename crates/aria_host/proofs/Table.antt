@@ -1,10 +1,10 @@
 -- Places of the table of open files.
-use Rattle.std.proofs.Common.{◌≡◌, inl, inr, ℕ, ◌+◌, ◌<◌, Bool, true, false, Option, Some, None, List, length, get_or, set, refl, sym, ◌∙◌, ap, subst, arith}
+use Rattle.std.proofs.Common.{◌≡◌, inl, inr, ℕ, ◌+◌, ◌<◌, false, Option, None, List, length, get_or, set, refl, sym, ◌∙◌, subst, arith}
 use Rattle.std.proofs.lemmas.Bool.{cases_order}
 use Rattle.std.proofs.lemmas.List.{get_or-set_same, get_or-set_other, get_or_default}
 use Rattle.aria_host.specs.declared.file_name.FileName.{FileName}
 use Rattle.aria_host.specs.declared.real.os.Handle.{Handle}
-use Rattle.aria_host.specs.OpenTable.{is_of, IsPlace, IsNotBelow}
+use Rattle.aria_host.specs.OpenTable.{is_of, IsNotBelow}
 
 -- what was read at a place is what stands there
 pub read_there : (handles : List (Option Handle)) (place : ℕ) (found : Option Handle) → place < length handles → found ≡ get_or handles place found → found ≡ get_or handles place None

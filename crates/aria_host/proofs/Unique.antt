@@ -1,5 +1,5 @@
 -- No two files have one name, so a folder's names list each file as often as the folder has it.
-use Rattle.std.proofs.Common.{◌≡◌, ◌==◌, inl, inr, ℕ, ◌+◌, ◌<◌, ◌^◌, Bool, true, false, cond, IsTrue, List, [], ◌∷◌, ◌++◌, length, take, All, get_or, count_by, nat_eq, codes, refl, sym, ◌∙◌, ap, subst, arith, add-zero}
+use Rattle.std.proofs.Common.{◌≡◌, ◌==◌, inl, inr, ℕ, ◌+◌, ◌<◌, ◌^◌, Bool, true, false, cond, List, [], ◌∷◌, ◌++◌, length, take, All, get_or, count_by, codes, refl, sym, ◌∙◌, ap, subst, arith, add-zero}
 use Rattle.std.specs.Cmp.Lexicographic.{pointwise, bytes_decides}
 use Rattle.std.proofs.lemmas.Bool.{cases_Bool, eq-eqb, false_from_ne_true}
 use Rattle.std.proofs.lemmas.List.{append_cancel_left}
@@ -8,7 +8,7 @@ use Rattle.std.proofs.lemmas.List.Sums.{sum_by-append, count_by_more_yes, count_
 use Rattle.aria_host.specs.declared.file_name.FileName.{FileName}
 use Rattle.aria_host.specs.declared.file_name.FileName.TheVariants.{Control, Log, Keys, Rows, NewKeys, NewRows}
 use Rattle.aria_host.specs.FileText.{digit, eight_digits, file_text, log_text}
-use Rattle.aria_host.specs.Form.{has_word, IsNamed, NamesNone, AreFiles, AddsFile}
+use Rattle.aria_host.specs.Form.{IsNamed, NamesNone, AreFiles, AddsFile}
 use Rattle.aria_host.specs.Folder.{IsFileName, same_file}
 use Rattle.aria_host.proofs.Files.{same_file-refl, same_file-true}
 use Rattle.aria_host.proofs.Named.{same_parts}

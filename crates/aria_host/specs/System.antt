@@ -1,5 +1,5 @@
 -- What the system has done of what it was asked.
-use Rattle.std.specs.Prelude.{◌≡◌, ◌⊎◌, ℕ, Bool, IsTrue, Option, ◌+◌, List, ◌∷◌, ◌++◌, replicate, Result, MatchResult}
+use Rattle.std.specs.Prelude.{◌≡◌, ◌⊎◌, ℕ, Option, ◌+◌, List, ◌∷◌, ◌++◌, replicate, Result, MatchResult}
 use Rattle.aria_host.specs.declared.file_name.FileName.{FileName}
 use Rattle.aria_host.specs.declared.host.Stream.{Stream}
 

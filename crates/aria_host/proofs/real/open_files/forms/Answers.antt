@@ -1,4 +1,4 @@
-use Rattle.std.proofs.Common.{List, ℕ, subst, sym}
+use Rattle.std.proofs.Common.{List, ℕ, subst}
 use Rattle.aria_host.specs.Form.{AddsFile}
 use Rattle.aria_host.proofs.Unique.{files_more}
 use Rattle.aria_host.proofs.real.open_files.forms.Goals as goal
