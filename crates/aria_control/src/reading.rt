@@ -1,13 +1,13 @@
 //! Reads the control file.
 
-ghost use Rattle.std.specs.Prelude.{◌≡◌, ◌⊎◌, ◌≤◌, ◌↔◌, ℕ, Option, Result, Ok, not, List, IsTrue, IfOk, OnErr};
+ghost use Rattle.std.specs.Prelude.{◌≡◌, ◌⊎◌, ◌≤◌, ◌↔◌, ℕ, Option, Result, Ok, not, List, IsTrue, IfOk};
 ghost use Rattle.std.specs.List.{list_any};
 ghost use Rattle.aria_page.specs.Page.{zero_page};
 ghost use Rattle.aria_host.specs.declared.fault.Fault.TheVariants.{NotOurs};
 ghost use Rattle.aria_host.specs.Folder.{page_count};
 ghost use Rattle.aria_host.specs.Calls.{HasDiskCause, Narrows, Unchanged};
 ghost use Rattle.aria_control.specs.declared.found.Found.TheVariants.{Kept};
-ghost use Rattle.aria_control.specs.Found.{control_file, is_control, whole_pages, HasPages, BeginsWith, IsBlank, IsFirst, OnPage, OnBlank, Answers, Fails, FitsLength, HasReadCause, IsFoundStorable};
+ghost use Rattle.aria_control.specs.Found.{control_file, is_control, whole_pages, HasPages, BeginsWith, IsFirst, OnPage, OnBlank, Answers, Fails, FitsLength, HasReadCause, IsFoundStorable};
 
 use crate::control::{Control, has_magic, named_by};
 use crate::found::Found;

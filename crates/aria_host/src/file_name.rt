@@ -1,10 +1,9 @@
-ghost use Rattle.std.specs.Prelude.{◌≡◌, ◌≢◌, ◌+◌, ◌<◌, ◌≤◌, ◌^◌, ℕ, IsTrue, Bool, None, IfOk, IfSome, MatchOption, ◌++◌, length, codes};
+ghost use Rattle.std.specs.Prelude.{◌≡◌, ◌≢◌, ◌+◌, ◌<◌, ◌≤◌, ◌^◌, ℕ, IsTrue, None, IfOk, IfSome, MatchOption, ◌++◌, length};
 ghost use Rattle.std.specs.Cmp.Lexicographic.{slice_cmp};
 ghost use Rattle.std.specs.Ordering.{nat_cmp};
-ghost use Rattle.aria_page.specs.Word.{is_word};
 ghost use Rattle.aria_host.specs.Form.{is_table, IsNamed, NamesNoTable, NamesNone};
 ghost use Rattle.arrayvec.specs.ArrayVec.{array_vec_len};
-ghost use Rattle.aria_host.specs.Folder.{IsFileName, is_form, is_log, same_file};
+ghost use Rattle.aria_host.specs.Folder.{is_form, is_log, same_file};
 ghost use Rattle.aria_host.specs.FileText.{digit, eight_digits, log_text, file_text};
 
 use aria_page::{Bytes, Name};

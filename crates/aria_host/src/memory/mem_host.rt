@@ -1,9 +1,7 @@
-ghost use Rattle.std.specs.Prelude.{◌≡◌, ℕ, ◌+◌, ◌-◌, ◌^◌, ◌≤◌, ◌<◌, ◌∷◌, ◌++◌, [], min, length, reverse, vec_len, vec_capacity, IsTrue, IsOk, IsErr, IsSome, IsNone, is_ok, OnOk, OnErr, IfOk, IfErr, IfSome, if◌then◌else◌, true, false, None, Some, Option, List, All, IsErrOf, alloc_error, nat_le};
+ghost use Rattle.std.specs.Prelude.{◌≡◌, ℕ, ◌+◌, ◌-◌, ◌^◌, ◌≤◌, ◌<◌, ◌∷◌, ◌++◌, [], min, length, vec_len, vec_capacity, IsOk, IsSome, IsNone, is_ok, OnOk, OnErr, IfOk, IfErr, IfSome, if◌then◌else◌, true, false, None, Some, Option, List, All, IsErrOf, alloc_error, nat_le};
 ghost use Rattle.std.specs.Bool.{OnTrue, OnFalse};
 ghost use Rattle.std.specs.Option.{option_map, option_map_or, option_copied};
-ghost use Rattle.aria_page.specs.Page.{zero_page};
-ghost use Rattle.aria_host.specs.Count.{Rose};
-ghost use Rattle.aria_host.specs.Folder.{Folder, IsFileName, page_count, page_at};
+ghost use Rattle.aria_host.specs.Folder.{IsFileName, page_count, page_at};
 ghost use Rattle.aria_host.specs.Calls.{Lists, extent_of, IsPage, Unchanged, HaveNames, Narrows, Changes, Writes, Cuts, Creates, Removes, Syncs, Tells, HasTellCause, HasDiskCause, HasDiskOrMemoryCause, told_on};
 ghost use Rattle.aria_host.specs.State.{told};
 ghost use Rattle.aria_host.specs.Effect.{with_set};

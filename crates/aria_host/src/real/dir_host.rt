@@ -1,11 +1,11 @@
-ghost use Rattle.std.specs.Prelude.{◌≡◌, ◌⊎◌, ◌+◌, ◌-◌, ◌^◌, ◌≤◌, ◌*◌, ◌/◌, ◌%◌, ◌<◌, ◌==◌, ◌∷◌, not, min, ⊤, false, ℕ, List, Option, Some, IsTrue, is_ok, if◌then◌else◌, IfOk, IfErr, IfSome, IsErrOf, MatchResult, MatchOption, All, alloc_error};
+ghost use Rattle.std.specs.Prelude.{◌≡◌, ◌⊎◌, ◌+◌, ◌-◌, ◌^◌, ◌≤◌, ◌*◌, ◌/◌, ◌%◌, ◌<◌, ◌==◌, ◌∷◌, ⊤, false, ℕ, List, Option, Some, IsTrue, is_ok, IfOk, IfSome, MatchResult, MatchOption, All};
 ghost use Rattle.aria_host.specs.Untold.{untold, not_told};
 ghost use Rattle.aria_host.specs.Count.{Rose};
 ghost use Rattle.aria_host.specs.Calls.{HasDiskCause, HasDiskOrMemoryCause, HasTellCause};
 ghost use Rattle.aria_host.specs.Folder.{IsFileName};
 ghost use Rattle.aria_host.specs.Form.{AreFiles};
 ghost use Rattle.aria_host.specs.Extent.{IsExtent, IsTooLong, IsFound};
-ghost use Rattle.aria_host.specs.System.{Call, IsRefused, Does, DoesWith};
+ghost use Rattle.aria_host.specs.System.{IsRefused, Does, DoesWith};
 ghost use Rattle.aria_host.specs.System.Call.{Looked, Made, Removed, Listed, SyncedFolder, Read, Wrote, Cut, SyncedData, SyncedWhole, Told};
 
 use crate::real::open_files::OpenFiles;

@@ -1,8 +1,8 @@
-ghost use Rattle.std.specs.Prelude.{◌≡◌, ◌⊎◌, ◌*◌, ◌/◌, ◌<◌, ◌^◌, ℕ, List, length, IsTrue, IfOk, OnOk, IfSome, MatchOption, MatchResult, All, ◌∷◌};
+ghost use Rattle.std.specs.Prelude.{◌≡◌, ◌*◌, ◌/◌, ◌<◌, ℕ, List, length, IsTrue, IfOk, OnOk, MatchResult, All, ◌∷◌};
 ghost use Rattle.aria_host.specs.Folder.{IsFileName};
 ghost use Rattle.aria_host.specs.Form.{AddsFile, AreFiles};
 ghost use Rattle.aria_host.specs.OpenTable.{IsPlace, IsClosed};
-ghost use Rattle.aria_host.specs.System.{Call, IsRefused, Does, DoesWith, Opens};
+ghost use Rattle.aria_host.specs.System.{IsRefused, Does, DoesWith, Opens};
 ghost use Rattle.aria_host.specs.System.Call.{Looked, Made, Removed, Listed, SyncedFolder, Read, Wrote, Cut, SyncedData, SyncedWhole, Told};
 
 use crate::real::open_table::OpenTable;

@@ -1,4 +1,4 @@
-ghost use Rattle.std.specs.Prelude.{◌≡◌, ◌≤◌, ℕ, List, IsTrue, Bool, length, take, IfOk};
+ghost use Rattle.std.specs.Prelude.{◌≡◌, ◌≤◌, List, IsTrue, Bool, length, take, IfOk};
 ghost use Rattle.aria_host.specs.System.{Call, Does};
 ghost use Rattle.aria_host.specs.System.Call.{Looked, Opened, Made, Removed, Listed, SyncedFolder, Read, Wrote, Cut, SyncedData, SyncedWhole, Told, Took};
 
