@@ -20,3 +20,11 @@ pub mod Zeros
 pub mod Later
 pub mod Purging
 pub mod Purged
+pub mod GroupReads
+pub mod Entries
+pub mod Splitting
+pub mod RunReads
+pub mod Steps
+pub mod PageCauses
+pub mod Looking
+pub mod FirstRun

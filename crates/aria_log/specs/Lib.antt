@@ -7,3 +7,4 @@ pub mod Purge
 pub mod Spelling
 pub mod Causes
 pub mod Reading
+pub mod Stepping

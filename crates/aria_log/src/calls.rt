@@ -22,7 +22,7 @@ const END: u64 = BODY_BYTES as u64 * PAGES_END;
 
 impl Log {
     // The place of the next byte: 8176 for each page before it, and the byte in its page's body.
-    fn place(&self) -> u64
+    pub(crate) fn place(&self) -> u64
         ensures { result ≡ place self.now }
     {
         self.number * BODY_BYTES as u64 + u64::from(self.used)

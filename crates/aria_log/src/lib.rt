@@ -28,13 +28,17 @@ mod calls;
 mod filling;
 mod log;
 mod log_page;
+mod next;
 mod place;
 mod purge;
 mod reader;
+mod run;
 mod start;
+mod step;
 
 pub use log::Log;
 pub use reader::Reader;
+pub use step::Step;
 
 #[cfg(test)]
 mod tests;

@@ -30,6 +30,9 @@ pub(crate) const BODY_AT: usize = LOG_BODY_AT;
 /// The size of the body, in bytes.
 pub(crate) const BODY_BYTES: usize = LOG_BODY_BYTES;
 
+/// A page has as many places.
+pub(crate) const PLACES: u64 = BODY_BYTES as u64;
+
 /// The most pages of a log file.
 pub(crate) const FILE_PAGES: u64 = 1024;
 
