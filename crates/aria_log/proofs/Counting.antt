@@ -1,5 +1,5 @@
 -- Numbers of pages and of files.
-use Rattle.std.proofs.Common.{◌≡◌, ◌==◌, ◌⊎◌, ℕ, ◌+◌, ◌/◌, ◌%◌, ◌<◌, ◌≤◌, Bool, true, false, not, refl, arith}
+use Rattle.std.proofs.Common.{◌≡◌, ◌==◌, ◌⊎◌, ℕ, ◌+◌, ◌*◌, ◌/◌, ◌%◌, ◌<◌, ◌≤◌, Bool, true, false, not, refl, arith}
 use Rattle.std.specs.Prelude.{min}
 use Rattle.std.specs.Ordering.{nat_cmp, ord_min}
 use Rattle.std.proofs.lemmas.Bool.{eqb-true}
@@ -41,3 +41,13 @@ lower_unless_same n m le apart = grind arith
 -- the lesser of two numbers
 pub least : (a b : ℕ) → ord_min nat_cmp a b ≡ min a b
 least a b = grind arith
+
+pub stops_at : (a b n : ℕ) → min a b ≤ n → (a ≤ n) ⊎ (b ≤ n)
+stops_at a b n le = grind arith
+
+-- the file and the page of a place
+pub place_file : (f p b place : ℕ) → p < 1024 → b < 8176 → 8176 * (1024 * f + p) + b ≡ place → place / 8176 / 1024 ≡ f
+place_file f p b place few small is = omega (arith, few, small, is)
+
+pub place_page : (f p b place : ℕ) → p < 1024 → b < 8176 → 8176 * (1024 * f + p) + b ≡ place → place / 8176 % 1024 ≡ p
+place_page f p b place few small is = omega (arith, few, small, is)

@@ -28,3 +28,8 @@ pub mod Steps
 pub mod PageCauses
 pub mod Looking
 pub mod FirstRun
+pub mod Looks
+pub mod FrontReads
+pub mod Damages
+pub mod Founds
+pub mod LogNames

@@ -8,3 +8,4 @@ pub mod Spelling
 pub mod Causes
 pub mod Reading
 pub mod Stepping
+pub mod Finding

@@ -26,8 +26,10 @@
 mod ahead;
 mod calls;
 mod filling;
+mod find;
 mod log;
 mod log_page;
+mod missing;
 mod next;
 mod place;
 mod purge;
@@ -36,6 +38,7 @@ mod run;
 mod start;
 mod step;
 
+pub use find::{Damage, Found};
 pub use log::Log;
 pub use reader::Reader;
 pub use step::Step;

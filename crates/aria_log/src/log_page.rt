@@ -39,6 +39,9 @@ pub(crate) const FILE_PAGES: u64 = 1024;
 /// Pages are numbered below this: the last page of file 2^24 - 1 is never used.
 pub(crate) const PAGES_END: u64 = (1 << 34) - 1;
 
+/// Files of the log have lower numbers than this.
+pub(crate) const NO_FILE: u32 = 1 << 24;
+
 /// The file of the page of this number.
 pub(crate) fn file_of(number: u64) -> u32
     requires { number < 2 ^ 34 }

@@ -7,7 +7,9 @@ ghost use Rattle.aria_host.specs.Calls.{HasDiskCause, Unchanged};
 ghost use Rattle.aria_log.specs.LogPage.{IsLogPage, read_log_page};
 ghost use Rattle.aria_log.specs.Pieces.{LogFiles, log_files, pieces_of};
 
-use crate::log_page::{BEGINS_AT, BODY_AT, BODY_BYTES, PAGES_END, USED_AT, file_of, page_of, seal};
+use crate::log_page::{
+    BEGINS_AT, BODY_AT, BODY_BYTES, NO_FILE, PAGES_END, USED_AT, file_of, page_of, seal,
+};
 use aria_host::{Fault, FileName, Host};
 use aria_page::{Page, same_bytes, u16_of};
 
@@ -47,9 +49,6 @@ fn read_page_of(number: u64, page: &Page) -> Option<(bool, u16)>
     }
 }
 
-/// Files of the log have lower numbers than this.
-const NO_FILE: u32 = 1 << 24;
-
 /// Reads the pages of the log, and holds the one that was read last.
 #[derive(Drop)]
 pub struct Reader {
@@ -84,8 +83,8 @@ impl Reader {
         }
     }
 
-    // Learns how many pages a file has.
-    fn find_length<H: Host>(&mut self, host: &mut H, file: u32) -> Result<(), Fault>
+    /// Learns how many pages a file has.
+    pub(crate) fn find_length<H: Host>(&mut self, host: &mut H, file: u32) -> Result<(), Fault>
         requires file { file < 2 ^ 24 }
         requires reader { IsTrue H.tells → IsReader self.old (log_files (H.state host.old).folder) }
         ensures pages { IsTrue H.tells → OnOk result (self.new.pages ≡ option_map_or length (log_files (H.state host.old).folder file) 0) }
