@@ -83,7 +83,7 @@ at_some place (b ∷ bytes) some = by_case (read_group (b ∷ bytes)) refl
 
 -- ---- the groups among what stands in the log
 
-groups_of-append : (a b : List Entry) → groups_of (a ++ b) ≡ groups_of a ++ groups_of b
+pub groups_of-append : (a b : List Entry) → groups_of (a ++ b) ≡ groups_of a ++ groups_of b
 groups_of-append [] b = refl
 groups_of-append (entry ∷ a) b =
     ap (λ (l : List Logged). group_of entry.at entry.found ++ l) (groups_of-append a b) ∙ sym (append_assoc (group_of entry.at entry.found) (groups_of a) (groups_of b))

@@ -149,7 +149,7 @@ no_runs n [] = refl
 no_runs n (bytes ∷ parts) = no_runs (n + 1) parts
 
 -- a run begins behind pieces, so the rest of theirs ends there
-rest_before : (ps : List Piece) (parts : List (List ℕ)) → run_rest (ps ++ pieces_of_run true parts) ≡ run_rest ps
+pub rest_before : (ps : List Piece) (parts : List (List ℕ)) → run_rest (ps ++ pieces_of_run true parts) ≡ run_rest ps
 unfolding run_rest
 rest_before [] [] = refl
 rest_before [] (bytes ∷ parts) = refl

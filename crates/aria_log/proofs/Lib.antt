@@ -33,3 +33,4 @@ pub mod FrontReads
 pub mod Damages
 pub mod Founds
 pub mod LogNames
+pub mod Readable

@@ -29,7 +29,7 @@ unfolding log_page log_head with_sum number
 count-log_page n begins bytes = refl
 
 -- the used bytes stand at the front of the body
-take-log_body : (bytes : List ℕ) → take (length bytes) (log_body bytes) ≡ bytes
+pub take-log_body : (bytes : List ℕ) → take (length bytes) (log_body bytes) ≡ bytes
 unfolding log_body
 take-log_body bytes = take_at bytes (replicate (8176 - length bytes) 0) (length bytes) refl
 

@@ -96,7 +96,7 @@ idle_forced log s base groups forced is none =
     subst (λ (k : ℕ). IsLog log s base groups k) (is.forced_are ∙ sym (ap length all)) is
 
 -- a page of a run holds some bytes
-run_stands : (pieces : Pieces) (n : ℕ) (begins may : Bool) (parts : List (List ℕ)) → HoldRun pieces n begins parts → AreFull parts → (begins || may) ≡ true → Stand pieces n may (pieces_of_run begins parts)
+pub run_stands : (pieces : Pieces) (n : ℕ) (begins may : Bool) (parts : List (List ℕ)) → HoldRun pieces n begins parts → AreFull parts → (begins || may) ≡ true → Stand pieces n may (pieces_of_run begins parts)
 run_stands pieces n begins may [] run full goes = tt
 run_stands pieces n begins may (bytes ∷ []) run full goes = (next_of pieces n may (begins, bytes) run.0 goes, tt)
 run_stands pieces n begins may (bytes ∷ next ∷ parts) run full goes =

@@ -66,7 +66,11 @@ held_some used x e = elim (cases_lt 0 used) [
   | inr none ↦ absurd (let f : false ≡ true = sym (ap (λ (o : Option Piece). is_some o) (not_held used x (omega (arith, none)))) ∙ e in (cc))
 ]
 
--- the used bytes of the page that is filled
+-- the page that is filled, where it has used bytes
+pub filled_is : (log : LogValue) → 1 ≤ log.used → filled log ≡ Some (log.number == log.first, take log.used (drop 16 log.page))
+filled_is log some = is_held log.used (log.number == log.first, take log.used (drop 16 log.page)) some
+
+-- its used bytes
 pub length-filled : (log : LogValue) (p : Piece) → length log.page ≡ 8192 → filled log ≡ Some p → (1 ≤ log.used) × (length p.1 ≡ log.used)
 length-filled log p long e =
     let is = held log.used (log.number == log.first, take log.used (drop 16 log.page)) p e in

@@ -21,7 +21,7 @@ use Rattle.aria_log.proofs.RunReads.{seen_last, length-filled, seen_above, seen_
 -- ---- where the next thing stands
 
 -- what stands first where there is a byte
-next_at : (end place : ℕ) (bytes : List ℕ) (runs : List Entry) → 1 ≤ length bytes → next_place end (entries_at place bytes ++ runs) ≡ place
+pub next_at : (end place : ℕ) (bytes : List ℕ) (runs : List Entry) → 1 ≤ length bytes → next_place end (entries_at place bytes ++ runs) ≡ place
 next_at end place bytes runs some =
     let (entry, more, e, at) = at_some place bytes some in
     ap (λ (l : List Entry). next_place end (l ++ runs)) e ∙ at
