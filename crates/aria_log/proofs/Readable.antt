@@ -5,18 +5,20 @@ use Rattle.std.specs.List.{flat_map}
 use Rattle.std.proofs.lemmas.Bool.{cases_lt, eq-eqb, ne_eqb}
 use Rattle.std.proofs.lemmas.List.{append-nil, length-drop, length-replicate, length_push}
 use Rattle.std.proofs.lemmas.List.Elements.{All-head, All-tail}
+use Rattle.aria_page.specs.declared.lsn.Lsn.{Lsn}
 use Rattle.aria_record.specs.declared.record.Record.{Record}
 use Rattle.aria_record.specs.Groups.{IsGroup}
 use Rattle.aria_record.specs.Spelled.{group_bytes}
 use Rattle.aria_record.proofs.Records.{group_again}
 use Rattle.aria_host.specs.State.{State}
 use Rattle.aria_log.specs.declared.log.Log.{Log as LogValue}
+use Rattle.aria_log.specs.declared.step.Step.TheVariants.{Group, Rest}
 use Rattle.aria_log.specs.LogPage.{log_body}
 use Rattle.aria_log.specs.Pieces.{Piece, Pieces, LogFiles, log_files, pieces_of, Stand, may_behind}
-use Rattle.aria_log.specs.Groups.{Logged, placed, groups_bytes, run_rest, groups_from}
+use Rattle.aria_log.specs.Groups.{Logged, placed, groups_bytes, run_rest, groups_from, lsn_at_place}
 use Rattle.aria_log.specs.Log.{HoldRun, AreFull, joined, behind, Fills, IsAt, IsBaseOf, IsLog, IsOpened, place}
 use Rattle.aria_log.specs.Reading.{Whole, Entry, entries_at, entries_of_runs, entries_from, next_place, seen, IsReadable, StandsAt}
-use Rattle.aria_log.specs.Stepping.{filled, groups_of, end_page}
+use Rattle.aria_log.specs.Stepping.{filled, groups_of, end_page, IsStep}
 use Rattle.aria_log.proofs.LogPages.{take-log_body}
 use Rattle.aria_log.proofs.GroupLists.{length-group_bytes}
 use Rattle.aria_log.proofs.Fronts.{stand_same, stand-append, pieces_of_run, length-pieces_of_run, rest_of_run, rest_before}
@@ -50,6 +52,8 @@ pub record IsWhole (log : LogValue) (files : LogFiles) (base : ℕ) (front : Lis
   pub readable : IsReadable log files base front
   pub groups_are : groups_of (entries_from base front) ≡ groups
   pub long : length log.page ≡ 8192
+  -- with no page in front of the log's end no byte was appended
+  pub empty : length front ≡ 0 → log.used ≡ 0
 
 pub opened_readable : (log : LogValue) (s : State) (base : ℕ) (groups : List Logged) (last : ℕ) → (is : IsOpened log s base groups last) → IsWhole log (log_files s.folder) base is.whole groups
 opened_readable log s base groups last is = record {
@@ -61,6 +65,7 @@ opened_readable log s base groups last is = record {
   };
   groups_are = groups_of-from base is.whole ∙ sym is.groups_are;
   long = fills_long log (base / 8176 + length is.whole) [] is.fills (omega arith);
+  empty = λ none. is.fills.used_is;
 }
 
 -- ---- a log that runs
@@ -154,6 +159,18 @@ at_readable log s base whole text based is = record {
   end = running_end log base whole is.parts is.held is.fills;
 }
 
+pub at_long : (log : LogValue) (s : State) (base : ℕ) (whole : List Piece) (text : List ℕ) → IsAt log s base whole text → length log.page ≡ 8192
+at_long log s base whole text is = fills_long log (behind base whole is.parts) is.held is.fills (omega (arith, is.fills.used_is))
+
+-- with no page in front of the log's end no byte was appended
+pub at_empty : (log : LogValue) (s : State) (base : ℕ) (whole : List Piece) (text : List ℕ) → (is : IsAt log s base whole text) → length (running_front whole is.parts is.held) ≡ 0 → log.used ≡ 0
+at_empty log s base whole text is none =
+    is.fills.used_is ∙ by_held is.held (omega (arith, none, length-append whole (pieces_of_run true (run_of is.parts is.held)), length-pieces_of_run true (run_of is.parts is.held)))
+  where
+    by_held : (held : List ℕ) → length (run_of is.parts held) ≡ 0 → length held ≡ 0
+    by_held [] e = refl
+    by_held (b ∷ bytes) e = absurd (omega (arith, e, length_push is.parts (b ∷ bytes)))
+
 -- ---- what stands in a log that runs
 
 -- groups as what stands in the log
@@ -240,7 +257,8 @@ running_readable log s base groups forced is =
         groups_are = ap groups_of entries ∙ groups_of-append (entries_from base is.whole) (wholes (placed (8176 * m) is.fresh))
             ∙ ap (λ (l : List Logged). l ++ groups_of (wholes (placed (8176 * m) is.fresh))) (groups_of-from base is.whole)
             ∙ ap (λ (l : List Logged). groups_from base is.whole ++ l) (groups_of-wholes (placed (8176 * m) is.fresh)) ∙ sym is.groups_are;
-        long = fills_long log (behind base is.whole is.at.parts) is.at.held is.at.fills (omega (arith, is.at.fills.used_is));
+        long = at_long log s base is.whole (groups_bytes is.fresh) is.at;
+        empty = at_empty log s base is.whole (groups_bytes is.fresh) is.at;
       };
       entries_are = entries;
     }
@@ -266,6 +284,28 @@ stands_first log files base [] is empty = record {
 }
 stands_first log files base (p ∷ ps) is empty = record { base = base; front = p ∷ ps; readable = is; entries = refl; here = sym (first_place (place log) base p ps is.based) }
 
--- what stands behind is read from where a step says
-pub stands_next : (log : LogValue) (files : LogFiles) (at : ℕ) (before : List Entry) (entry : Entry) (more : List Entry) → StandsAt log files at before (entry ∷ more) → StandsAt log files (next_place (place log) more) (before ++ entry ∷ []) more
-stands_next log files at before entry more is = record { base = is.base; front = is.front; readable = is.readable; entries = is.entries ∙ sym (append_assoc before (entry ∷ []) more); here = refl }
+-- What stands behind is read from where a step says.
+pub record StandsBehind (log : LogValue) (files : LogFiles) (after : Lsn) : Type 0 where
+  pub at : ℕ
+  pub before : List Entry
+  pub more : List Entry
+  pub stands : StandsAt log files at before more
+  pub after_is : after ≡ lsn_at_place at
+
+behind_entry : (log : LogValue) (files : LogFiles) (at : ℕ) (before : List Entry) (entry : Entry) (more : List Entry) (after : Lsn) → StandsAt log files at before (entry ∷ more) → after ≡ lsn_at_place (next_place (place log) more) → StandsBehind log files after
+behind_entry log files at before entry more after is e = record {
+  at = next_place (place log) more;
+  before = before ++ entry ∷ [];
+  more = more;
+  stands = record { base = is.base; front = is.front; readable = is.readable; entries = is.entries ∙ sym (append_assoc before (entry ∷ []) more); here = refl };
+  after_is = e;
+}
+
+pub behind_group : (log : LogValue) (files : LogFiles) (at : ℕ) (before more : List Entry) (here : Lsn) (group : List Record) (after : Lsn) → StandsAt log files at before more → IsStep (place log) more (Group here group after)
+    → StandsBehind log files after
+behind_group log files at before [] here group after is step = absurd step
+behind_group log files at before (entry ∷ more) here group after is step = behind_entry log files at before entry more after is step.after_is
+
+pub behind_rest : (log : LogValue) (files : LogFiles) (at : ℕ) (before more : List Entry) (here : Lsn) (bytes : ℕ) (after : Lsn) → StandsAt log files at before more → IsStep (place log) more (Rest here bytes after) → StandsBehind log files after
+behind_rest log files at before [] here bytes after is step = absurd step
+behind_rest log files at before (entry ∷ more) here bytes after is step = behind_entry log files at before entry more after is step.after_is

@@ -100,41 +100,44 @@ inside_page pieces used end base p ps k is low =
 past_run : (b k : ℕ) (bytes : List ℕ) → k < length (drop b (bytes ++ [])) → length bytes ≤ b + k → ⊥
 past_run b k bytes low high = omega (arith, low, high, length-drop b (bytes ++ []), ap length (append-nil bytes))
 
+-- a page that begins no run has none
+pub no_run : (n : ℕ) (p : Piece) (ps : List Piece) → p.0 ≡ false → entries_of_runs n (p ∷ ps) ≡ entries_of_runs (n + 1) ps
+unfolding entries_of_runs
+no_run n p ps goes = ap (λ (b : Bool). cond b (entries_at (8176 * n) (p.1 ++ run_rest ps)) [] ++ entries_of_runs (n + 1) ps) goes
+
+-- the same place, with the same bytes from there on and the same runs behind
+carried : (pieces : Pieces) (end place place' : ℕ) (rest rest' : List ℕ) (runs runs' : List Entry) → place ≡ place' → rest ≡ rest' → runs ≡ runs' → Inside pieces end place rest runs → Inside pieces end place' rest' runs'
+carried pieces end place place' rest rest' runs runs' same bytes behind is =
+    subst (λ (k : ℕ). Inside pieces end k rest' runs') same (subst (λ (l : List ℕ). Inside pieces end place l runs') bytes (subst (λ (l : List Entry). Inside pieces end place rest l) behind is))
+
+-- a run that goes on has the bytes of its next page
+run_goes : (q : Piece) (qs : List Piece) → q.0 ≡ false → run_rest (q ∷ qs) ≡ q.1 ++ run_rest qs
+unfolding run_rest
+run_goes q qs goes = ap (λ (b : Bool). cond b [] (q.1 ++ run_rest qs)) goes
+
 -- a place behind the base's page in its run
 further : (pieces : Pieces) → AreUsed pieces → (qs : List Piece) (end base : ℕ) (p q : Piece) (k : ℕ) → IsFrom pieces end base (p ∷ q ∷ qs) → k < length (drop (base % 8176) (p.1 ++ run_rest (q ∷ qs))) → length p.1 ≤ base % 8176 + k
     → q.0 ≡ false
     → ((end base : ℕ) (p : Piece) (k : ℕ) → IsFrom pieces end base (p ∷ qs) → k < length (drop (base % 8176) (p.1 ++ run_rest qs))
     → Inside pieces end (base + k) (drop k (drop (base % 8176) (p.1 ++ run_rest qs))) (entries_of_runs (base / 8176 + 1) qs))
     → Inside pieces end (base + k) (drop k (drop (base % 8176) (p.1 ++ run_rest (q ∷ qs)))) (entries_of_runs (base / 8176 + 1) (q ∷ qs))
-unfolding run_rest entries_of_runs
 further pieces used qs end base p q k is low past goes more =
     let n : ℕ = base / 8176 in
     let full : length p.1 ≡ 8176 = eqb-true (length p.1) 8176 (goes_full pieces (n + 1) (is_full p) q qs is.stand.1 goes) in
-    let all : run_rest (q ∷ qs) ≡ q.1 ++ run_rest qs = ap (λ (b : Bool). cond b [] (q.1 ++ run_rest qs)) goes in
     let bytes : List ℕ = q.1 ++ run_rest qs in
+    let all : run_rest (q ∷ qs) ≡ bytes = run_goes q qs goes in
     let next : ℕ = 8176 * (n + 1) in
     let j : ℕ = base % 8176 + k - 8176 in
     let based : base % 8176 < length p.1 = is.based in
-    let same : next + j ≡ base + k = omega (arith, full, past) in
-    let even : next % 8176 ≡ 0 = (next_base n).1 in
+    let first : drop (next % 8176) bytes ≡ bytes = ap (λ (m : ℕ). drop m bytes) (next_base n).1 in
     let whole : drop k (drop (base % 8176) (p.1 ++ run_rest (q ∷ qs))) ≡ drop j bytes =
     drop-drop k (base % 8176) (p.1 ++ run_rest (q ∷ qs)) ∙ ap (λ (l : List ℕ). drop (base % 8176 + k) (p.1 ++ l)) all
     ∙ ap (λ (m : ℕ). drop m (p.1 ++ bytes)) (let e : base % 8176 + k ≡ length p.1 + j = omega (arith, full, past) in e) ∙ drop_past j p.1 bytes in
-    let first : drop (next % 8176) bytes ≡ bytes = ap (λ (m : ℕ). drop m bytes) even in
     let size : length (drop (base % 8176) (p.1 ++ run_rest (q ∷ qs))) ≡ 8176 + length bytes - base % 8176 =
     length-drop (base % 8176) (p.1 ++ run_rest (q ∷ qs)) ∙ omega (arith, full, length-append p.1 (run_rest (q ∷ qs)), ap length all) in
     let there = more end next q j (next_from pieces used end base p q qs is) (omega (arith, low, size, ap length first, past, full, based)) in
-    record {
-      front = there.front;
-      from = subst (λ (m : ℕ). IsFrom pieces end m there.front) same there.from;
-      entries_are =
-          ap (λ (m : ℕ). entries_from m there.front) (sym same) ∙ there.entries_are
-          ∙ ap (λ (m : ℕ). entries_at m (drop j (drop (next % 8176) bytes)) ++ entries_of_runs (next / 8176 + 1) qs) same
-          ∙ ap (λ (l : List ℕ). entries_at (base + k) (drop j l) ++ entries_of_runs (next / 8176 + 1) qs) first
-          ∙ ap (λ (l : List ℕ). entries_at (base + k) l ++ entries_of_runs (next / 8176 + 1) qs) (sym whole)
-          ∙ ap (λ (m : ℕ). entries_at (base + k) (drop k (drop (base % 8176) (p.1 ++ run_rest (q ∷ qs)))) ++ entries_of_runs (m + 1) qs) (next_base n).0
-          ∙ ap (λ (b : Bool). entries_at (base + k) (drop k (drop (base % 8176) (p.1 ++ run_rest (q ∷ qs)))) ++ (cond b (entries_at next bytes) [] ++ entries_of_runs (n + 1 + 1) qs)) (sym goes);
-    }
+    carried pieces end (next + j) (base + k) (drop j (drop (next % 8176) bytes)) (drop k (drop (base % 8176) (p.1 ++ run_rest (q ∷ qs)))) (entries_of_runs (next / 8176 + 1) qs) (entries_of_runs (n + 1) (q ∷ qs))
+    (omega (arith, full, past)) (ap (drop j) first ∙ sym whole) (ap (λ (m : ℕ). entries_of_runs (m + 1) qs) (next_base n).0 ∙ sym (no_run (n + 1) q qs goes)) there
 
 -- a place in a run
 inside : (pieces : Pieces) → AreUsed pieces → (ps : List Piece) (end base : ℕ) (p : Piece) (k : ℕ) → IsFrom pieces end base (p ∷ ps) → k < length (drop (base % 8176) (p.1 ++ run_rest ps))
@@ -161,7 +164,7 @@ pub record Behind (pieces : Pieces) (end : ℕ) (runs : List Entry) : Type 0 whe
   pub from : IsFrom pieces end base front
   pub entries_are : entries_from base front ≡ runs
 
--- pieces from a page's first byte on, the first of which begins a run
+-- pieces from a page's first byte on
 pub page_from : (pieces : Pieces) → AreUsed pieces → (end n : ℕ) (may : Bool) (p : Piece) (ps : List Piece) → Stand pieces n may (p ∷ ps) → n + length (p ∷ ps) ≡ end → IsFrom pieces end (8176 * n) (p ∷ ps)
 page_from pieces used end n may p ps stand end_is =
     let page : (8176 * n) / 8176 ≡ n = omega arith in
@@ -181,11 +184,6 @@ page_entries n p ps begins =
     ap (λ (b : ℕ). entries_at (8176 * n) (drop b (p.1 ++ run_rest ps)) ++ entries_of_runs ((8176 * n) / 8176 + 1) ps) byte
     ∙ ap (λ (m : ℕ). entries_at (8176 * n) (p.1 ++ run_rest ps) ++ entries_of_runs (m + 1) ps) page
     ∙ ap (λ (b : Bool). cond b (entries_at (8176 * n) (p.1 ++ run_rest ps)) [] ++ entries_of_runs (n + 1) ps) (sym begins)
-
--- a page that begins no run has none
-pub no_run : (n : ℕ) (p : Piece) (ps : List Piece) → p.0 ≡ false → entries_of_runs n (p ∷ ps) ≡ entries_of_runs (n + 1) ps
-unfolding entries_of_runs
-no_run n p ps goes = ap (λ (b : Bool). cond b (entries_at (8176 * n) (p.1 ++ run_rest ps)) [] ++ entries_of_runs (n + 1) ps) goes
 
 -- the page behind the log's end is a base
 pub end_from : (pieces : Pieces) (end : ℕ) → IsFrom pieces end (8176 * end) []

@@ -5,7 +5,8 @@ use Rattle.aria_log.specs.Groups.{lsn_at_place}
 use Rattle.aria_log.specs.Log.{place}
 use Rattle.aria_log.specs.Reading.{seen, entries_of_runs}
 use Rattle.aria_log.specs.Stepping.{shown, RunsFrom}
-use Rattle.aria_log.proofs.Looking.{unchanged_now, unchanged_after, reader_at}
+use Rattle.aria_log.proofs.Unchanged.{unchanged_now, unchanged_after}
+use Rattle.aria_log.proofs.Looking.{reader_at}
 use Rattle.aria_log.proofs.FirstRun.{runs_start, runs_page, run_found, run_passed, run_none}
 use Rattle.aria_log.proofs.log.Log.first_run.Goals as goal
 
