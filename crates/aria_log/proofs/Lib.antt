@@ -26,7 +26,6 @@ pub mod Splitting
 pub mod RunReads
 pub mod Steps
 pub mod PageCauses
-pub mod Unchanged
 pub mod Looking
 pub mod FirstRun
 pub mod Looks
