@@ -323,27 +323,29 @@ no_groups : (base : ℕ) → [] ≡ groups_from base []
 unfolding groups_from
 no_groups base = refl
 
--- a folder without a log holds one without groups
-pub fresh_opened : (log : LogValue) (s : State) → log.number ≡ 1024 → log.first ≡ 1024 → log.used ≡ 0 → drop 16 log.page ≡ log_body [] → HasNoLog s → IsOpened log s (8176 * 1024) [] 1
-fresh_opened log s number first used body is = record {
-  whole = [];
-  front = record { stand = tt; end = next_none (pieces_of (log_files s.folder)) (8176 * 1024 / 8176 + 0) true (none_reads (log_files s.folder) (8176 * 1024 / 8176 + 0) (is.folder ((8176 * 1024 / 8176 + 0) / 1024) (omega arith))) };
-  based = refl;
-  groups_are = no_groups (8176 * 1024);
-  first = first ∙ sym number;
-  fills = record { number_is = number ∙ omega arith; used_is = used; body_is = body };
-  low = omega arith;
-  sound = record {
-    here = inr refl;
-    stand = λ f g from less low some. absurd (none_isnt (log_files s.folder g) (is.folder g low) some);
-    few = λ f from low. omega (arith, ap (λ (o : Option (List (List ℕ))). option_map_or length o 0) (is.folder f low));
-    based = inl refl;
-    quiet = λ n p from valid. absurd (let f : None ≡ Some p = sym (no_piece n) ∙ valid in (cc));
-  };
-  last_is = λ over. absurd (omega (arith, over));
-  none = λ f over past low. is.folder f low;
-  rest = λ c leaves f from low. is.images c leaves f low ∙ sym (is.folder f low);
-}
+-- a folder without a log holds one without groups, whichever file it begins in
+pub fresh_opened : (log : LogValue) (s : State) (file : ℕ) → file < 2 ^ 24 → log.number ≡ 1024 * file → log.first ≡ 1024 * file → log.used ≡ 0 → drop 16 log.page ≡ log_body [] → HasNoLog s → IsOpened log s (8176 * (1024 * file)) [] file
+fresh_opened log s file low number first used body is =
+    let page : 8176 * (1024 * file) / 8176 + 0 ≡ 1024 * file = omega arith in
+    record {
+      whole = [];
+      front = record { stand = tt; end = next_none (pieces_of (log_files s.folder)) (8176 * (1024 * file) / 8176 + 0) true (no_piece (8176 * (1024 * file) / 8176 + 0)) };
+      based = omega arith;
+      groups_are = no_groups (8176 * (1024 * file));
+      first = first ∙ sym number;
+      fills = record { number_is = number ∙ sym page; used_is = used; body_is = body };
+      low = omega (arith, page, low);
+      sound = record {
+        here = inr (omega (arith, page));
+        stand = λ f g from less upto some. absurd (none_isnt (log_files s.folder g) (is.folder g upto) some);
+        few = λ f from upto. omega (arith, ap (λ (o : Option (List (List ℕ))). option_map_or length o 0) (is.folder f upto));
+        based = inl (omega arith);
+        quiet = λ n p from valid. absurd (let f : None ≡ Some p = sym (no_piece n) ∙ valid in (cc));
+      };
+      last_is = λ over. absurd (omega (arith, over, page));
+      none = λ f over past upto. is.folder f upto;
+      rest = λ c leaves f from upto. is.images c leaves f upto ∙ sym (is.folder f upto);
+    }
   where
     no_piece : (n : ℕ) → pieces_of (log_files s.folder) n ≡ None
     no_piece n = elim (cases_lt n (2 ^ 34)) [

@@ -3,7 +3,10 @@ ghost use Rattle.aria_host.specs.MemHost.{mem_state};
 ghost use Rattle.aria_log.specs.Log.{HasNoLog, IsRunning};
 ghost use Rattle.aria_log.specs.Spelling.{IsSpelled};
 
+mod boundary;
+mod faults;
 mod purging;
+mod rooms;
 
 use crate::Log;
 use aria_host::{Fault, FileName, MemHost};
@@ -42,8 +45,8 @@ fn begin(host: &mut MemHost) -> Result<Log, Fault>
     Ok(log)
 }
 
-// Appends COMMIT so many times, and forces them.
-fn commit_all(alloc: Global, log: &mut Log, host: &mut MemHost, times: u32) -> Result<(), Fault>
+// Appends COMMIT so many times.
+fn append_all(alloc: Global, log: &mut Log, host: &mut MemHost, times: u32) -> Result<(), Fault>
     requires { IsRunning log.old (mem_state host.old) }
     ensures { OnOk result (IsRunning log.new (mem_state host.new)) }
 {
@@ -52,6 +55,16 @@ fn commit_all(alloc: Global, log: &mut Log, host: &mut MemHost, times: u32) -> R
     for _nth in 0..times {
         log.append(host, group.as_slice())?;
     }
+    Ok(())
+}
+
+// Appends COMMIT so many times, and forces them.
+fn commit_all(alloc: Global, log: &mut Log, host: &mut MemHost, times: u32) -> Result<(), Fault>
+    requires { IsRunning log.old (mem_state host.old) }
+    ensures { OnOk result (IsRunning log.new (mem_state host.new)) }
+{
+    let _file = FileName::Log(1);
+    append_all(alloc, log, host, times)?;
     log.force(host)?;
     Ok(())
 }

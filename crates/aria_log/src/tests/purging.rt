@@ -46,6 +46,7 @@ fn purged(alloc: Global, below: u32, fails: u64) -> Result<(u32, bool), Fault> {
 // A purge below file 6 lists the names, and removes the files 3, 4 and 5.
 #[test]
 fn a_purge_that_stops_leaves_no_gap(rt: HostRuntime) -> Result<(), Fail> {
+    let _file = FileName::Log(1);
     let alloc = rt.alloc();
     assert_eq!(rt; purged(alloc, 6, 0)?, (13457, false));
     assert_eq!(rt; purged(alloc, 6, 1)?, (13457, false));
@@ -57,6 +58,7 @@ fn a_purge_that_stops_leaves_no_gap(rt: HostRuntime) -> Result<(), Fail> {
 
 #[test]
 fn a_purge_keeps_all_other_files(rt: HostRuntime) -> Result<(), Fail> {
+    let _file = FileName::Log(1);
     let alloc = rt.alloc();
     assert_eq!(rt; purged(alloc, 0, 99)?, (13457, true));
     assert_eq!(rt; purged(alloc, 3, 99)?, (13457, true));
