@@ -319,7 +319,7 @@ started_log log log' s base groups there is ends page number first used there_is
 
 -- ---- a new log
 
-no_groups : (base : ℕ) → [] ≡ groups_from base []
+pub no_groups : (base : ℕ) → [] ≡ groups_from base []
 unfolding groups_from
 no_groups base = refl
 

@@ -51,7 +51,15 @@ is_place l place e =
       page = place_page l.file (l.offset / 8192) (l.offset % 8192 - 16) place few (omega arith) found.1;
     }
 
--- without a base the log is read from its first page on
+-- the file of the base
+pub base_file : (from : Lsn) (base : ℕ) → base_of from ≡ Some base → base / 8176 / 1024 ≡ (start_of from).file
+base_file from base is = (is_place (start_of from) base is).file
+
+-- without a base the log is read from its first byte on
+pub first_place : (from : Lsn) → means_none from ≡ true → base_of from ≡ Some (8176 * 1024)
+unfolding start_of place_of
+first_place from none = ap (λ (b : Bool). place_of (if b then record { file = 1; offset = 16 } else from)) none
+
 first_page : (from : Lsn) (base : ℕ) → base_of from ≡ Some base → means_none from ≡ true → base / 8176 % 1024 ≡ 0
 unfolding start_of
 first_page from base is none =
@@ -101,7 +109,7 @@ some_or_none None = inr refl
 some_or_none (Some pages) = inl (search rules)
 
 -- with no file missing, each file before one that is there is there too
-none_before : (from : Lsn) (files : LogFiles) → NoneMissing from files → (f g : ℕ) → (start_of from).file ≤ f → f < g → g < 2 ^ 24 → IsSome (files g) → IsSome (files f)
+pub none_before : (from : Lsn) (files : LogFiles) → NoneMissing from files → (f g : ℕ) → (start_of from).file ≤ f → f < g → g < 2 ^ 24 → IsSome (files g) → IsSome (files f)
 none_before from files missing f g low less high some = elim (some_or_none (files f)) [
   | inl there ↦ there
   | inr absent ↦ absurd (missing f (record { low = low; absent = absent; needed = inl (g, omega (arith, less), high, some) }))

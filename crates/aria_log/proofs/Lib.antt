@@ -34,3 +34,4 @@ pub mod Damages
 pub mod Founds
 pub mod LogNames
 pub mod Readable
+pub mod Opening

@@ -11,9 +11,10 @@ use Rattle.aria_host.specs.Count.{Rose}
 use Rattle.aria_host.specs.State.{State}
 use Rattle.aria_log.specs.declared.log.Log.{Log as LogValue}
 use Rattle.aria_log.specs.declared.find.Found.{Found as FoundValue}
-use Rattle.aria_log.specs.Pieces.{Piece, LogFiles, pieces_of, IsFront}
+use Rattle.aria_log.specs.Pieces.{Piece, LogFiles, log_files, pieces_of, IsFront}
 use Rattle.aria_log.specs.Files.{IsBase, IsQuiet, IsSoundLog}
-use Rattle.aria_log.specs.Log.{Fills, IsBaseOf, file_of}
+use Rattle.aria_log.specs.Groups.{Logged}
+use Rattle.aria_log.specs.Log.{Fills, IsBaseOf, IsOpened, file_of}
 
 -- ---- the base
 
@@ -185,3 +186,10 @@ pub record HasFindCause {T : Type 0} (old new : State) (result : Result T Fault)
   pub calm : Fails result ⊎ (new.disk_faults ≡ old.disk_faults)
   pub later : old.disk_faults ≤ new.disk_faults
   pub tell : new.tell_faults ≡ old.tell_faults
+
+-- What is answered as a log is opened: the log, the lowest file that is missing, or a page at which there is damage.
+abbrev pub OpenAnswers : Lsn → State → State → Result LogValue Fault → Type 0
+OpenAnswers from old new (Ok log) = NoneMissing from (log_files old.folder) × (base : ℕ) × (base_of from ≡ Some base) × (groups : List Logged) × IsOpened log new base groups log.last
+OpenAnswers from old new (Err (FileMissing file)) = (f : ℕ) × (file ≡ LogFile f) × IsMissing from (log_files old.folder) f
+OpenAnswers from old new (Err (LogDamaged file page)) = NoneMissing from (log_files old.folder) × IsDamage from (log_files old.folder) file page
+OpenAnswers from old new (Err _) = ⊥

@@ -31,6 +31,7 @@ mod log;
 mod log_page;
 mod missing;
 mod next;
+mod open;
 mod place;
 mod purge;
 mod reader;

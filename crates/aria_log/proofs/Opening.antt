@@ -1,0 +1,127 @@
+-- A log that is opened: its files are brought to the disk.
+use Rattle.std.proofs.Common.{◌≡◌, ◌⊎◌, inl, inr, ℕ, ◌+◌, ◌*◌, ◌/◌, ◌^◌, ◌<◌, ◌≤◌, Bool, true, false, IsTrue, is_some, Option, None, Some, Ok, List, [], ◌∷◌, length, refl, sym, ◌∙◌, ap, subst, arith, rules}
+use Rattle.std.specs.Prelude.{IsSome}
+use Rattle.std.proofs.lemmas.Option.{same_Some}
+use Rattle.aria_page.specs.declared.lsn.Lsn.{Lsn}
+use Rattle.aria_host.specs.declared.file_name.FileName.TheVariants.{Log}
+use Rattle.aria_host.specs.Folder.{Folder}
+use Rattle.aria_host.specs.State.{State}
+use Rattle.aria_host.specs.Calls.{HaveNames}
+use Rattle.aria_log.specs.declared.log.Log.{Log as LogValue}
+use Rattle.aria_log.specs.declared.find.Found.{Found as FoundValue}
+use Rattle.aria_log.specs.Pieces.{Piece, LogFiles, log_files, pieces_of, Stand, IsFront}
+use Rattle.aria_log.specs.Groups.{Logged, groups_from}
+use Rattle.aria_log.specs.Files.{IsBase, IsSoundLog}
+use Rattle.aria_log.specs.Log.{file_of, AreAtRest, HasNoLog, IsOpened}
+use Rattle.aria_log.specs.Finding.{means_none, start_of, IsLast, Ends, IsFound, Finds, OpenAnswers}
+use Rattle.aria_log.proofs.Counting.{below_or_same}
+use Rattle.aria_log.proofs.Fronts.{next_none}
+use Rattle.aria_log.proofs.PutPages.{none_isnt}
+use Rattle.aria_log.proofs.Starting.{none_reads}
+use Rattle.aria_log.proofs.Cutting.{no_groups}
+use Rattle.aria_log.proofs.Founds.{base_file, first_place, none_before}
+
+-- each file before one that is there is there too
+abbrev pub AreInRow : LogFiles → ℕ → Type 0
+AreInRow files low = (f g : ℕ) → low ≤ f → f < g → g < 2 ^ 24 → IsSome (files g) → IsSome (files f)
+
+-- where the first file is there all are
+pub all_there : (files : LogFiles) (low last : ℕ) → IsLast files low last → last < 2 ^ 24 → AreInRow files low → IsSome (files low) → (f : ℕ) → low ≤ f → f ≤ last → IsSome (files f)
+all_there files low last is form row first f from upto = elim (below_or_same f last upto) [
+  | inl less ↦ row f last from less form (is.there (omega (arith, from, less)))
+  | inr same ↦ elim (below_or_same low f from) [
+    | inl less ↦ subst (λ (k : ℕ). IsSome (files k)) (sym same) (is.there (omega (arith, less, same)))
+    | inr here ↦ subst (λ (k : ℕ). IsSome (files k)) here first
+  ]
+]
+
+-- where it isn't none is
+pub none_there : (files : LogFiles) (low f : ℕ) → AreInRow files low → files low ≡ None → low ≤ f → f < 2 ^ 24 → files f ≡ None
+none_there files low f row absent from form = elim (below_or_same low f from) [
+  | inr here ↦ subst (λ (k : ℕ). files k ≡ None) here absent
+  | inl less ↦ by (files f) refl less
+]
+  where
+    by : (o : Option (List (List ℕ))) → files f ≡ o → low < f → o ≡ None
+    by None is less = refl
+    by (Some pages) is less = absurd (none_isnt (files low) absent (row low f (omega arith) less form (subst (λ (o : Option (List (List ℕ))). IsSome o) (sym is) (search rules))))
+
+-- a file that isn't in the folder is in no image that has the folder's names
+pub image_none : (s : State) (c : Folder) (f : ℕ) → HaveNames s → s.may_leave c → f < 2 ^ 24 → s.folder (Log f) ≡ None → c (Log f) ≡ None
+image_none s c f names leaves form absent = by (c (Log f)) (names c leaves (Log f) form ∙ ap is_some absent)
+  where
+    by : (o : Option (List (List ℕ))) → is_some o ≡ false → o ≡ None
+    by None is = refl
+    by (Some pages) is = absurd (cc)
+
+pub some_there : (content : Option (List (List ℕ))) (pages : List (List ℕ)) → content ≡ Some pages → IsSome content
+some_there content pages is = subst (λ (o : Option (List (List ℕ))). IsSome o) (sym is) (search rules)
+
+-- ---- the log
+
+really : {A : Type 0} → ⊥ ⊎ A → A
+really (inl never) = absurd never
+really (inr is) = is
+
+-- the files from the base's on, of a log that is found
+pub found_last : (from : Lsn) (files : LogFiles) (found : FoundValue) → ⊥ ⊎ Finds from files found → IsLast files (start_of from).file found.log.last
+found_last from files found answer =
+    let finds = really answer in
+    let low : file_of finds.base ≡ (start_of from).file = base_file from finds.base finds.base_is in
+    subst (λ (n : ℕ). IsLast files n found.log.last) low (last finds.base finds.stands)
+  where
+    last : (base : ℕ) → IsFound found.log files base ⊎ ((¬ IsBase (pieces_of files) base) × Ends found.log files base (base / 8176)) → IsLast files (file_of base) found.log.last
+    last base (inl is) = is.ends.last
+    last base (inr outside) = outside.1.last
+
+pub found_row : (from : Lsn) (files : LogFiles) (found : FoundValue) → ⊥ ⊎ Finds from files found → AreInRow files (start_of from).file
+found_row from files found answer = λ f g low less form some. none_before from files (really answer).missing f g low less form some
+
+-- a log that is found without damage is opened, once its files are on the disk
+pub found_opened : (from : Lsn) (old new : State) (found : FoundValue) → ⊥ ⊎ Finds from (log_files old.folder) found → found.damage ≡ None → new.folder ≡ old.folder → AreAtRest new (start_of from).file
+    → OpenAnswers from old new (Ok found.log)
+found_opened from old new found answer none same rest =
+    let files = log_files old.folder in
+    let finds = really answer in
+    let base = finds.base in
+    let sound = finds.sound.0 none in
+    let is = in_log files base sound.based finds.stands in
+    let now : log_files new.folder ≡ files = ap log_files same in
+    let opened : (f : LogFiles) → f ≡ log_files new.folder → IsFront (pieces_of f) (base / 8176) true is.whole = λ f e. subst (λ (g : LogFiles). IsFront (pieces_of g) (base / 8176) true is.whole) (sym (e ∙ now)) is.front in (
+      finds.missing,
+      base,
+      finds.base_is,
+      groups_from base is.whole,
+      record {
+        whole = is.whole;
+        front = opened (log_files new.folder) refl;
+        based = is.based;
+        groups_are = refl;
+        first = is.ends.first;
+        fills = is.ends.fills;
+        low = is.ends.low;
+        sound = subst (λ (f : LogFiles). IsSoundLog f base (base / 8176 + length is.whole)) (sym now) (subst (λ (n : ℕ). IsSoundLog files base n) is.ends.fills.number_is sound);
+        last_is = λ over. subst (λ (f : LogFiles). IsSome (f found.log.last)) (sym now) (is.ends.last.there (omega (arith, over)));
+        none = λ f behind over form. ap (λ (g : LogFiles). g f) now ∙ is.ends.last.none f over form;
+        rest = subst (λ (n : ℕ). AreAtRest new n) (sym (base_file from base finds.base_is)) rest;
+      },
+    )
+  where
+    in_log : (files : LogFiles) (base : ℕ) → IsBase (pieces_of files) base → IsFound found.log files base ⊎ ((¬ IsBase (pieces_of files) base) × Ends found.log files base (base / 8176)) → IsFound found.log files base
+    in_log files base based (inl is) = is
+    in_log files base based (inr outside) = absurd (outside.0 based)
+
+-- nothing stands where there is no file
+nothing_stands : (files : LogFiles) (n : ℕ) (may : Bool) (whole : List Piece) → ((f : ℕ) → f < 2 ^ 24 → files f ≡ None) → n < 2 ^ 34 → Stand (pieces_of files) n may whole → whole ≡ []
+nothing_stands files n may [] none low stand = refl
+nothing_stands files n may (p ∷ ps) none low stand =
+    absurd (let e : None ≡ Some p = sym (next_none (pieces_of files) n may (none_reads files n (none (n / 1024) (omega (arith, low))))) ∙ stand.0 in cc)
+
+-- without a log file it is the log that has no groups
+pub opened_fresh : (from : Lsn) (old new : State) (log : LogValue) → OpenAnswers from old new (Ok log) → IsTrue (means_none from) → HasNoLog old → new.folder ≡ old.folder → IsOpened log new (8176 * 1024) [] log.last
+opened_fresh from old new log (missing, base, is, groups, opened) none no_log same =
+    let at : base ≡ 8176 * 1024 = same_Some base (8176 * 1024) (sym is ∙ first_place from none) in
+    let absent : (f : ℕ) → f < 2 ^ 24 → log_files new.folder f ≡ None = λ f form. ap (λ (d : Folder). d (Log f)) same ∙ no_log.folder f form in
+    let whole : opened.whole ≡ [] = nothing_stands (log_files new.folder) (base / 8176) true opened.whole absent (omega (arith, opened.low)) opened.front.stand in
+    let none_found : groups ≡ [] = opened.groups_are ∙ ap (groups_from base) whole ∙ sym (no_groups base) in
+    subst (λ (b : ℕ). IsOpened log new b [] log.last) at (subst (λ (l : List Logged). IsOpened log new base l log.last) none_found opened)
