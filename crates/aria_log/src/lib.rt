@@ -8,18 +8,24 @@
 //! The calls, in their order:
 //!
 //! ```text
-//! let mut log = Log::fresh(&host);                // of a folder that has no log file
+//! let mut log = Log::open(alloc, &mut host, from)?; // from where redo starts
+//! let mut reader = Reader::new();
+//! let step = log.next(alloc, &mut host, &mut reader, from)?; // a group and the place behind it: as often as wanted
 //! log.start(&mut host)?;                          // once, before the first group
 //! let lsn = log.append(&mut host, bytes)?;        // the bytes of one group; as often as wanted
 //! log.force(&mut host)?;                          // all groups are on the disk: append and force again
 //! log.purge(alloc, &mut host, lsn)?;              // removes the files before the place of the oldest group that is needed
 //! ```
 //!
+//! `fresh` is the log of a folder that has no log file. `find` finds a log that may be damaged, so that what stands before
+//! the damage can be read; it isn't started then. `first_run` says where the first whole run begins behind a place, for one
+//! who reads without a place to begin at. `next` gives a group also where it lies in the page that isn't written yet.
+//!
 //! `force` also makes room ahead: pages of zeros behind the log's end, so that the file needn't grow at each force. Zeros
 //! are no valid page, so they are no part of the log, and `start` leaves them.
 //!
-//! `start` asks for a log that was opened on this very host; `append` and `force` ask for one that was started. After a
-//! call has answered a fault but `LogSpent` the log isn't used again. Neither `append` nor `force` takes memory.
+//! `start` asks for a log that was opened on this very host; `append` and `force` ask for one that was started. After one
+//! of these three has answered a fault but `LogSpent` the log isn't used again. Neither `append` nor `force` takes memory.
 //! docs/FORMATS.md has the pages ("The log's pages") and the groups.
 #![tactic(auto)]
 
