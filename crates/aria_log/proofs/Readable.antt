@@ -10,6 +10,7 @@ use Rattle.aria_record.specs.declared.record.Record.{Record}
 use Rattle.aria_record.specs.Groups.{IsGroup}
 use Rattle.aria_record.specs.Spelled.{group_bytes}
 use Rattle.aria_record.proofs.Records.{group_again}
+use Rattle.aria_host.specs.Folder.{Folder}
 use Rattle.aria_host.specs.State.{State}
 use Rattle.aria_log.specs.declared.log.Log.{Log as LogValue}
 use Rattle.aria_log.specs.declared.step.Step.TheVariants.{Group, Rest}
@@ -116,8 +117,10 @@ run_held log s base whole text is =
   where
     files : LogFiles
     files = log_files s.folder
+
     m : ℕ
     m = base / 8176 + length whole
+
     by_held : (held : List ℕ) → Fills log (behind base whole is.parts) held → HoldRun (seen log (log_files s.folder)) (base / 8176 + length whole) true is.parts
         → HoldRun (seen log (log_files s.folder)) (base / 8176 + length whole) true (run_of is.parts held)
     by_held [] fills run = run
@@ -279,8 +282,8 @@ stands_first log files base [] is empty = record {
   readable = is;
   entries = refl;
   here =
-  let none = empty refl in
-  let at : base ≡ place log = omega (arith, is.end, is.based, (end_page_is log).0 none, none) in at ∙ sym (ap (next_place (place log)) (nothing_from base));
+      let none = empty refl in
+      let at : base ≡ place log = omega (arith, is.end, is.based, (end_page_is log).0 none, none) in at ∙ sym (ap (next_place (place log)) (nothing_from base));
 }
 stands_first log files base (p ∷ ps) is empty = record { base = base; front = p ∷ ps; readable = is; entries = refl; here = sym (first_place (place log) base p ps is.based) }
 
@@ -309,3 +312,7 @@ behind_group log files at before (entry ∷ more) here group after is step = beh
 pub behind_rest : (log : LogValue) (files : LogFiles) (at : ℕ) (before more : List Entry) (here : Lsn) (bytes : ℕ) (after : Lsn) → StandsAt log files at before more → IsStep (place log) more (Rest here bytes after) → StandsBehind log files after
 behind_rest log files at before [] here bytes after is step = absurd step
 behind_rest log files at before (entry ∷ more) here bytes after is step = behind_entry log files at before entry more after is step.after_is
+
+-- and from a folder that reads the same
+pub behind_at : (log : LogValue) (a b : State) (after after' : Lsn) → a.folder ≡ b.folder → after ≡ after' → StandsBehind log (log_files a.folder) after → StandsBehind log (log_files b.folder) after'
+behind_at log a b after after' folder same is = subst (λ (f : Folder). StandsBehind log (log_files f) after') folder (subst (λ (l : Lsn). StandsBehind log (log_files a.folder) l) same is)

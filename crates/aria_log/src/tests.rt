@@ -7,6 +7,7 @@ mod boundary;
 mod faults;
 mod purging;
 mod rooms;
+mod walking;
 
 use crate::Log;
 use aria_host::{Fault, FileName, MemHost};
