@@ -1,0 +1,8 @@
+pub mod Words
+pub mod Telling
+pub mod Listed
+pub mod Few
+pub mod Names
+pub mod Started
+pub mod Answering
+pub mod Displayed

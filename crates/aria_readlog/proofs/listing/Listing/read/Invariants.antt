@@ -1,0 +1,16 @@
+use Rattle.std.proofs.Common.{◌≡◌, ◌≤◌, ◌+◌, ℕ, List, [], IsTrue}
+use Rattle.aria_log.specs.Groups.{lsn_at_place}
+use Rattle.aria_log.specs.Pieces.{log_files}
+use Rattle.aria_log.specs.Reading.{Entry, IsReader, StandsAt}
+use Rattle.aria_readlog.proofs.Listed.{IsListed}
+use Rattle.aria_readlog.proofs.listing.Listing.read.Given as goal
+
+abbrev pub invariant-loop-nth : goal.invariant-loop-nth
+invariant-loop-nth g l = record {
+  room : l.self.groups + l.self.rests ≤ l._nth;
+  reader : IsTrue g.H.Host.tells → IsReader l.reader (log_files (g.H.Host.state l.host).folder);
+  listed : IsTrue g.H.Host.tells → (here : ℕ) (more : List Entry) → StandsAt l.log (log_files (g.H.Host.state l.fn.host).folder) here [] more → l.fn.from ≡ lsn_at_place here
+      → IsListed l.log l.at l._nth more l.fn.self l.self (g.H.Host.state l.fn.host) (g.H.Host.state l.host);
+  disk : (g.H.Host.state l.host).disk_faults ≡ (g.H.Host.state l.fn.host).disk_faults;
+  tell : (g.H.Host.state l.host).tell_faults ≡ (g.H.Host.state l.fn.host).tell_faults;
+}
