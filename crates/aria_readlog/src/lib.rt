@@ -10,3 +10,6 @@ mod start;
 
 pub use choice::Choice;
 pub use displaying::display;
+
+#[cfg(test)]
+mod tests;
