@@ -19,7 +19,7 @@ ghost use Rattle.aria_tools.specs.Words.{IsRun};
 use crate::ending::{end, end_with};
 use crate::reading::run;
 use crate::status::Status;
-use crate::words::WordList;
+use crate::words::{Command, WordList};
 use aria_host::{Host, Source};
 use aria_model::Met;
 use aria_page::List as Seq;
@@ -133,12 +133,12 @@ pub fn aria<H: Host, S: Source>(
     // On standard error stands the line of the status, or a front of it where telling failed.
     ensures error_text { IsTrue H.tells → TellsStatus result.status (H.state host.old) (H.state host.new) }
 {
-    if !words.is_run() {
+    let Some(Command::Run) = words.command() else {
         return Ended {
             status: end_with(host, Status::BadWords),
             met: Seq::new(alloc),
         };
-    }
+    };
     let ran = run(alloc, host, input);
     Ended {
         status: end(alloc, host, &ran.outcome),

@@ -15,7 +15,7 @@ mod words;
 
 pub use command::{Ended, aria};
 pub use status::Status;
-pub use words::WordList;
+pub use words::{Command, WordList};
 
 #[cfg(test)]
 mod tests;

@@ -1,4 +1,4 @@
-use crate::{WordList, aria};
+use crate::{Command, WordList, aria};
 use aria_host::{Fate, FileName, MemHost, MemSource, Stream};
 use aria_page::{Bytes, List, Page};
 use std::alloc::{AllocError, Global};
@@ -346,6 +346,60 @@ fn other_words_are_bad_words(rt: HostRuntime) -> Result<(), Fail> {
     assert!(rt; are_bad_words(rt.alloc(), &["run", "x"])?);
     assert!(rt; are_bad_words(rt.alloc(), &["run", ""])?);
     assert!(rt; !are_bad_words(rt.alloc(), &["run"])?);
+    Ok(())
+}
+
+// What the words of a text ask for.
+fn asked(alloc: Global, text: &str) -> Result<&'static str, AllocError> {
+    let mut words = WordList::new(alloc);
+    for word in text.split(' ') {
+        words.push(String::from_str(alloc, word)?)?;
+    }
+    Ok(match words.command() {
+        Some(Command::Run) => "run",
+        Some(Command::ReadLog { silent: true }) => "silent",
+        Some(Command::ReadLog { silent: false }) => "display",
+        None => "bad",
+    })
+}
+
+// The first row of a table, each words, an arrow and what they ask for, that is not so.
+fn first_wrong(alloc: Global, table: &str) -> Result<String, AllocError> {
+    for row in table.lines() {
+        match row.split_once(" => ") {
+            None => return String::from_str(alloc, row),
+            Some((text, want)) => {
+                if asked(alloc, text)? != want {
+                    return String::from_str(alloc, row);
+                }
+            }
+        }
+    }
+    Ok(String::new(alloc))
+}
+
+#[test]
+fn words_ask_for_commands(rt: HostRuntime) -> Result<(), Fail> {
+    let wrong = first_wrong(
+        rt.alloc(),
+        "run => run
+run run => bad
+run -d => bad
+read_log => bad
+read_log -s => bad
+read_log -d => display
+read_log --display-only => display
+read_log -d -s => silent
+read_log -s -d => silent
+read_log --silent --display-only => silent
+read_log --display-only --silent => silent
+read_log -d -d => bad
+read_log -s -s => bad
+read_log -d -s -s => bad
+read_log -sd => bad
+-d read_log => bad",
+    )?;
+    assert_eq!(rt; wrong.as_str(), "");
     Ok(())
 }
 

@@ -183,14 +183,14 @@ returns-clause-damage_kept g c five to =
     c.run-ran.result.outcome old mid c.run-ran.ensures.ends (ended_five c.run-ran.result.outcome c.end.result c.end.ensures.status five) to)
     (c.end.ensures.only to)
 
-pub returns-then-not-is_run-clause-bad_words_kept : goal.returns-then-not-is_run-clause-bad_words_kept
-returns-then-not-is_run-clause-bad_words_kept g c two to =
+pub returns-in_default-clause-bad_words_kept : goal.returns-in_default-clause-bad_words_kept
+returns-in_default-clause-bad_words_kept g c two to =
     let old = g.H.Host.state c.args.host.now in
     told_nothing old (g.H.Host.state c.end_with.new.host) (λ f t left. g.met.H.Host.only_now c.args.host.now f t to left)
     (λ f low leaves. g.met.H.Host.counts_now c.args.host.now old.moment f to low leaves) (c.end_with.ensures.only to)
 
-pub returns-then-not-is_run-clause-others : goal.returns-then-not-is_run-clause-others
-returns-then-not-is_run-clause-others g c to =
+pub returns-in_default-clause-others : goal.returns-in_default-clause-others
+returns-in_default-clause-others g c to =
     let old = g.H.Host.state c.args.host.now in
     let now = g.H.Host.state c.end_with.new.host in
     nothing_others old now (told_nothing old now (λ f t left. g.met.H.Host.only_now c.args.host.now f t to left)
