@@ -11,9 +11,17 @@ ghost use Rattle.aria_tools.specs.Statuses.{NamesFault, code_of, fault_text, is_
 use crate::status::Status;
 use crate::stop::Stop;
 use aria_host::{Fault, FileName, Host, Stream};
-use aria_page::Bytes;
+use aria_model::Met;
+use aria_page::{Bytes, List as Seq};
 use itoa::Buffer;
 use std::alloc::{AllocError, Global};
+
+/// How a command ended: its status (docs/LANGUAGE.md, "Statuses"), and the statements that met an exception.
+#[derive(Drop)]
+pub struct Ended {
+    pub status: u8,
+    pub met: Seq<Met>,
+}
 
 // These words and a file's name, as one line.
 fn file_line(alloc: Global, words: &[u8], file: &FileName) -> Result<Bytes, AllocError>

@@ -5,15 +5,16 @@
 //! that the program exits with, and the line on standard error.
 #![tactic(auto)]
 
-mod command;
 mod ending;
 mod reading;
+mod run_script;
 mod session;
 mod status;
 mod stop;
 mod words;
 
-pub use command::{Ended, aria};
+pub use ending::Ended;
+pub use run_script::run_script as aria;
 pub use status::Status;
 pub use words::{Command, WordList};
 

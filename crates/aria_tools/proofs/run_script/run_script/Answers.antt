@@ -11,7 +11,7 @@ use Rattle.aria_tools.specs.Endings.{Began, Prefix, BeganOrPrefix}
 use Rattle.aria_tools.specs.Pieces.{supply}
 use Rattle.aria_tools.proofs.Commands.{began_or_prefix, each_prefix, each_some, moments_after, meets_due, meets_all_due, refused_is, all_answered, ended_ok, ended_answered, full_answered, front_told, text_is, text_after, completes, sound_where, run_statuses}
 use Rattle.aria_tools.proofs.Others.{others_after, told_nothing, nothing_others, damage_nothing, ended_five, ended_damage}
-use Rattle.aria_tools.proofs.command.aria.Goals as goal
+use Rattle.aria_tools.proofs.run_script.run_script.Goals as goal
 
 pub returns-clause-any_moment : goal.returns-clause-any_moment
 returns-clause-any_moment g c to ti world each =

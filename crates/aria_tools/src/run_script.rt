@@ -1,4 +1,4 @@
-//! The command line as a call.
+//! The command `run`.
 
 ghost use Rattle.std.specs.Prelude.{◌≡◌, ◌≢◌, ◌⊎◌, ◌↔◌, ◌+◌, ◌^◌, ◌≤◌, ◌++◌, ℕ, List, [], All, length, take, IsTrue};
 ghost use Rattle.aria_host.specs.Count.{Rose};
@@ -16,29 +16,17 @@ ghost use Rattle.aria_tools.specs.Endings.{AnswersEnded, AnswersFull, BeganOrPre
 ghost use Rattle.aria_tools.specs.Pieces.{supply};
 ghost use Rattle.aria_tools.specs.Words.{IsRun};
 
-use crate::ending::{end, end_with};
+use crate::ending::{Ended, end, end_with};
 use crate::reading::run;
 use crate::status::Status;
 use crate::words::{Command, WordList};
 use aria_host::{Host, Source};
-use aria_model::Met;
 use aria_page::List as Seq;
 use std::alloc::Global;
 
-/// How a command ended: its status (docs/LANGUAGE.md, "Statuses"), and the statements that met an exception.
-#[derive(Drop)]
-pub struct Ended {
-    pub status: u8,
-    pub met: Seq<Met>,
-}
-
-/// Carries out a command line. The one command is `run`: it executes the script that `input` has left on the tables of
-/// the folder.
-///
-/// Statuses: 0, all was executed; 1, and a statement was refused; 2, bad words; 3, want of memory, which may come at
-/// any time; 4, the disk failed; 5, the folder is damaged; 6, the input failed; 7, standard output failed; 8, the input
-/// has more than 2^40 bytes. The clauses on bytes and folders speak where the host and the input tell what they hold.
-pub fn aria<H: Host, S: Source>(
+/// Carries out a command line whose one command is `run`: it executes the script that `input` has left on the tables of
+/// the folder. Other words are bad words.
+pub fn run_script<H: Host, S: Source>(
     alloc: Global,
     words: &WordList,
     host: &mut H,
