@@ -7,3 +7,4 @@ pub mod Runs
 pub mod Ready
 pub mod Commands
 pub mod Others
+pub mod LogEnds

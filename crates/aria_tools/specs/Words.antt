@@ -23,3 +23,7 @@ AreOptions _ _ = ⊥
 abbrev pub IsReadLog : List (List ℕ) → Bool → Type 0
 IsReadLog [] silent = ⊥
 IsReadLog (word ∷ options) silent = (word ≡ codes "read_log") × AreOptions options silent
+
+-- the words that ask for the log
+abbrev pub AsksForLog : List (List ℕ) → Type 0
+AsksForLog words = (silent : Bool) × IsReadLog words silent

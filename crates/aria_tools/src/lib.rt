@@ -5,7 +5,9 @@
 //! that the program exits with, and the line on standard error.
 #![tactic(auto)]
 
+mod command;
 mod ending;
+mod read_log;
 mod reading;
 mod run_script;
 mod session;
@@ -13,8 +15,8 @@ mod status;
 mod stop;
 mod words;
 
+pub use command::aria;
 pub use ending::Ended;
-pub use run_script::run_script as aria;
 pub use status::Status;
 pub use words::{Command, WordList};
 
