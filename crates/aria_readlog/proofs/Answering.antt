@@ -47,7 +47,7 @@ answer_of folder start found (Ok done) begins finds r end = inr (record {
     page = (let e : r.n ≡ 8176 * r.n / 8176 = omega arith in e) ∙ ap (λ (b : ℕ). b / 8176) (sym (same_Some finds.base (8176 * r.n) (sym finds.base_is ∙ r.base_is)))
 answer_of folder start found (Err fault) begins finds r end = by found.damage finds.damaged end
   where
-    read : (fault : Fault) → IsReadFault true fault → Fails (Err fault)
+    read : (fault : Fault) → IsReadFault true fault → Fails {T = Unit {0}} (Err fault)
     read Disk is = tt
     read (Memory error) is = tt
     read Tell is = tt
@@ -60,14 +60,14 @@ answer_of folder start found (Err fault) begins finds r end = by found.damage fi
     read (FileMissing file) is = absurd is
     read TooManyTables is = absurd is
 
-    by : (damage : Option Damage) → IfSome damage (λ d. IsDamageFrom (log_files folder) finds.base d.file d.page) → IsEnd damage (Err fault) → Fails (Err fault) ⊎ Answers (Err fault) folder
+    by : (damage : Option Damage) → IfSome damage (λ d. IsDamageFrom (log_files folder) finds.base d.file d.page) → IsEnd damage (Err fault) → Fails {T = Unit {0}} (Err fault) ⊎ Answers (Err fault) folder
     by None damaged end = inl (read fault end)
     by (Some damage) damaged (inl is) = inl (read fault is)
     by (Some damage) damaged (inr is) = inr (subst (λ (f : Fault). Answers (Err f) folder) (sym is)
         (record { start = start; begins = begins; missing = finds.missing; damage = inr (finds.base, finds.base_is, damaged) }))
 
 -- where the log wasn't found
-pub answer_unfound : (folder : Folder) (start : Lsn) (fault : Fault) → Begins folder start → FindFails {T = FoundValue} (Err fault) ⊎ FindAnswers start (log_files folder) (Err fault) → Fails (Err fault) ⊎ Answers (Err fault) folder
+pub answer_unfound : (folder : Folder) (start : Lsn) (fault : Fault) → Begins folder start → FindFails {T = FoundValue} (Err fault) ⊎ FindAnswers start (log_files folder) (Err fault) → Fails {T = Unit {0}} (Err fault) ⊎ Answers (Err fault) folder
 answer_unfound folder start Disk begins (inl is) = inl tt
 answer_unfound folder start (Memory error) begins (inl is) = inl tt
 answer_unfound folder start Tell begins (inl is) = absurd is

@@ -1,12 +1,13 @@
 -- What is told of a folder whose log was looked for.
-use Rattle.std.proofs.Common.{◌≡◌, inr, ◌⊎◌, ℕ, ◌*◌, Bool, List, ◌++◌, sym, ◌∙◌, ap, subst}
+use Rattle.std.proofs.Common.{◌≡◌, inr, ◌⊎◌, ℕ, ◌*◌, Bool, List, ◌++◌, true, sym, ◌∙◌, ap, subst}
 use Rattle.std.specs.Prelude.{Result}
 use Rattle.aria_page.specs.declared.lsn.Lsn.{Lsn}
 use Rattle.aria_host.specs.declared.fault.Fault.{Fault}
+use Rattle.aria_host.specs.Calls.{Narrows}
 use Rattle.aria_host.specs.State.{Folder, State, LeavesOnly}
 use Rattle.aria_host.proofs.Moments.{weakened}
 use Rattle.aria_log.specs.declared.find.Found.{Found as FoundValue}
-use Rattle.aria_log.specs.Pieces.{log_files}
+use Rattle.aria_log.specs.Pieces.{Piece, log_files}
 use Rattle.aria_log.specs.Groups.{lsn_at_place}
 use Rattle.aria_log.specs.Reading.{Entry, entries_of_runs, IsReadable}
 use Rattle.aria_readlog.specs.declared.choice.Choice.{Choice}
@@ -14,6 +15,7 @@ use Rattle.aria_readlog.specs.Choice.{all_lines, total_line}
 use Rattle.aria_readlog.specs.Telling.{AtFront, Shows}
 use Rattle.aria_readlog.specs.Display.{Begins, IsDisplay, IsTold, AtDisplay, Keeps, IsEnd, Answers, Agree, Fails}
 use Rattle.aria_readlog.specs.Looking.{IsLooked}
+use Rattle.aria_readlog.proofs.Telling.{OnlyNow, shows_after}
 use Rattle.aria_readlog.proofs.Started.{displayed, display_unique}
 use Rattle.aria_readlog.proofs.Answering.{answer_of, only_answer, only_found}
 
@@ -34,6 +36,23 @@ first_at folder found first looked = looked.first_is ∙ looked.from.first
 pub display_of : (folder : Folder) (choice : Choice) (found : FoundValue) (first : Lsn) (looked : IsLooked folder found first)
     → IsDisplay folder choice (all_lines choice (entries_of folder found first looked)) (total_line choice (entries_of folder found first looked))
 display_of folder choice found first looked = displayed folder choice looked.start found.log (begins_of folder found first looked) looked.from
+
+-- what a call tells of the log that was found is told since the call that found it
+pub shows_found : (choice : Choice) (found : FoundValue) (first : Lsn) (old mid new : State) (done : Bool) → OnlyNow old → Narrows old mid → (looked : IsLooked old.folder found first)
+    → ((n : ℕ) (front : List Piece) → IsReadable found.log (log_files mid.folder) (8176 * n) front → first ≡ lsn_at_place (8176 * n)
+    → Shows (all_lines choice (entries_of_runs n front) ++ total_line choice (entries_of_runs n front)) mid new done)
+    → Shows (all_lines choice (entries_of old.folder found first looked) ++ total_line choice (entries_of old.folder found first looked)) old new done
+shows_found choice found first old mid new done only same looked shows =
+    shows_after old mid new (all_lines choice (entries_of old.folder found first looked) ++ total_line choice (entries_of old.folder found first looked)) done only same
+    (shows looked.from.n looked.from.front (read_at old.folder mid.folder found first same.folder looked) (first_at old.folder found first looked))
+
+-- the same, without the last line
+pub shows_lines : (choice : Choice) (found : FoundValue) (first : Lsn) (old mid new : State) → OnlyNow old → Narrows old mid → (looked : IsLooked old.folder found first)
+    → ((n : ℕ) (front : List Piece) → IsReadable found.log (log_files mid.folder) (8176 * n) front → first ≡ lsn_at_place (8176 * n) → Shows (all_lines choice (entries_of_runs n front)) mid new true)
+    → Shows (all_lines choice (entries_of old.folder found first looked)) old new true
+shows_lines choice found first old mid new only same looked shows =
+    shows_after old mid new (all_lines choice (entries_of old.folder found first looked)) true only same
+    (shows looked.from.n looked.from.front (read_at old.folder mid.folder found first same.folder looked) (first_at old.folder found first looked))
 
 -- it is told whatever the lines of the folder are called
 pub shows_all : (choice : Choice) (found : FoundValue) (first : Lsn) (old new : State) (done : Bool) (lines last : List ℕ) → (looked : IsLooked old.folder found first)

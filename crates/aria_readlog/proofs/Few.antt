@@ -1,25 +1,20 @@
 -- A log has no more entries than bytes.
-use Rattle.std.proofs.Common.{◌≡◌, ◌==◌, ◌&&◌, ◌||◌, not, ℕ, zero, suc, ◌+◌, ◌-◌, ◌*◌, ◌/◌, ◌%◌, ◌^◌, ◌<◌, ◌≤◌, nat_lt, Bool, true, false, cond, Option, None, Some, List, [], ◌∷◌, ◌++◌, length, take, drop, refl, ◌∙◌, ap, arith}
-use Rattle.std.specs.Prelude.{option_and_then}
+use Rattle.std.proofs.Common.{◌≡◌, ◌==◌, ◌&&◌, not, ℕ, zero, suc, ◌+◌, ◌-◌, ◌*◌, ◌/◌, ◌%◌, ◌^◌, ◌<◌, ◌≤◌, nat_lt, Bool, true, false, cond, Option, None, Some, List, [], ◌∷◌, ◌++◌, length, take, drop, ap, arith}
 use Rattle.std.specs.Option.{option_map_or}
 use Rattle.std.proofs.lemmas.List.{length-append, length-take, length-drop}
 use Rattle.aria_record.specs.declared.record.Record.{Record}
 use Rattle.aria_record.specs.Reading.{read_group}
-use Rattle.aria_host.specs.Seen.{page_or_zero}
 use Rattle.aria_log.specs.declared.log.Log.{Log as LogValue}
-use Rattle.aria_log.specs.Pieces.{Piece, Pieces, LogFiles, pieces_of, next_piece, is_full, Stand}
+use Rattle.aria_log.specs.Pieces.{Piece, Pieces, LogFiles, pieces_of, is_full, Stand}
 use Rattle.aria_log.specs.Groups.{run_rest}
 use Rattle.aria_log.specs.Reading.{Entry, Whole, void_rest, entries_within, entries_at, entries_of_runs, entries_from, seen, StandsAt}
-use Rattle.aria_log.proofs.LogPages.{read_is_valid}
+use Rattle.aria_log.proofs.Splitting.{next_is}
+use Rattle.aria_log.proofs.RunReads.{pieces_used}
 
 -- ---- a page has at most 8176 used bytes
 
 abbrev AreShort : Pieces → Type 0
 AreShort pieces = (n : ℕ) (p : Piece) → pieces n ≡ Some p → length p.1 ≤ 8176
-
-pieces_short : (files : LogFiles) → AreShort (pieces_of files)
-unfolding pieces_of
-pieces_short files n p is = (read_is_valid n p.0 p.1 (page_or_zero (n % 1024) (files (n / 1024))) is).fits
 
 seen_short : (log : LogValue) (files : LogFiles) → AreShort (seen log files)
 unfolding seen
@@ -31,7 +26,7 @@ seen_short log files n p is = by (nat_lt n log.number) (n == log.number && not (
     last false is = absurd (cc)
 
     by : (low here : Bool) → cond low (pieces_of files n) (cond here (Some (n == log.first, take log.used (drop 16 log.page))) None) ≡ Some p → length p.1 ≤ 8176
-    by true here is = pieces_short files n p is
+    by true here is = (pieces_used files n p is).1
     by false here is = last here is
 
 -- the used bytes of these pages
@@ -39,23 +34,11 @@ total : List Piece → ℕ
 total [] = 0
 total (p ∷ ps) = length p.1 + total ps
 
-next_short : (pieces : Pieces) (n : ℕ) (may : Bool) (p : Piece) → AreShort pieces → next_piece pieces n may ≡ Some p → length p.1 ≤ 8176
-unfolding next_piece
-next_short pieces n may p short is = by (pieces n) refl is
-  where
-    pick : (q : Piece) (b : Bool) → pieces n ≡ Some q → cond b (Some q) None ≡ Some p → length p.1 ≤ 8176
-    pick q true at is = short n p (at ∙ is)
-    pick q false at is = absurd (cc)
-
-    by : (o : Option Piece) → pieces n ≡ o → option_and_then (λ (q : Piece). cond (q.0 || may) (Some q) None) o ≡ Some p → length p.1 ≤ 8176
-    by None at is = absurd (cc)
-    by (Some q) at is = pick q (q.0 || may) at is
-
 stand_total : (pieces : Pieces) (n : ℕ) (may : Bool) (ps : List Piece) → AreShort pieces → Stand pieces n may ps → total ps ≤ 8176 * length ps
 unfolding total
 stand_total pieces n may [] short stand = omega arith
 stand_total pieces n may (p ∷ ps) short stand =
-    omega (arith, next_short pieces n may p short stand.0, stand_total pieces (n + 1) (is_full p) ps short stand.1)
+    omega (arith, short n p (next_is pieces n may p stand.0).0, stand_total pieces (n + 1) (is_full p) ps short stand.1)
 
 -- ---- each entry takes a byte
 

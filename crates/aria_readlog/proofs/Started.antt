@@ -1,7 +1,7 @@
 -- From where on the log of a folder is looked at, and what stands there.
-use Rattle.std.proofs.Common.{◌≡◌, ◌==◌, ◌&&◌, not, inl, inr, ⊎_elim, ℕ, ◌+◌, ◌*◌, ◌/◌, ◌%◌, ◌^◌, ◌<◌, ◌≤◌, Bool, true, false, cond, Option, None, Some, List, length, take, drop, refl, sym, ◌∙◌, ap, subst, arith, rules}
+use Rattle.std.proofs.Common.{◌≡◌, ◌==◌, ◌&&◌, inl, inr, ⊎_elim, ℕ, ◌+◌, ◌*◌, ◌/◌, ◌%◌, ◌^◌, ◌<◌, ◌≤◌, Bool, true, false, cond, Option, None, Some, List, length, refl, sym, ◌∙◌, ap, subst, arith, rules}
 use Rattle.std.specs.Prelude.{IsSome}
-use Rattle.std.proofs.lemmas.Bool.{cases_lt, lt-ltb}
+use Rattle.std.proofs.lemmas.Bool.{cases_lt}
 use Rattle.std.proofs.lemmas.Option.{same_Some}
 use Rattle.aria_page.specs.declared.lsn.Lsn.{Lsn}
 use Rattle.aria_page.specs.Lsn.{IsLsn}
@@ -13,9 +13,10 @@ use Rattle.aria_log.specs.declared.find.Found.{Found as FoundValue}
 use Rattle.aria_log.specs.Pieces.{Piece, LogFiles, log_files, pieces_of, IsFront}
 use Rattle.aria_log.specs.Groups.{lsn_at_place}
 use Rattle.aria_log.specs.Files.{IsBase}
-use Rattle.aria_log.specs.Reading.{entries_of_runs, seen, IsReadable}
+use Rattle.aria_log.specs.Reading.{entries_of_runs}
 use Rattle.aria_log.specs.Finding.{means_none, start_of, place_of, base_of, NoneMissing, IsFound, Finds}
-use Rattle.aria_log.proofs.Fronts.{stand_same, front_unique}
+use Rattle.aria_log.proofs.Fronts.{front_unique}
+use Rattle.aria_log.proofs.Founds.{found_readable}
 use Rattle.aria_readlog.specs.declared.choice.Choice.{Choice}
 use Rattle.aria_readlog.specs.Choice.{all_lines, total_line}
 use Rattle.aria_readlog.specs.Start.{IsLowest, IsStart}
@@ -59,29 +60,6 @@ first_at k =
 
 -- ---- the log that was found is read from there on
 
-seen_below : (log : LogValue) (files : LogFiles) (n : ℕ) → n < log.number → seen log files n ≡ pieces_of files n
-unfolding seen
-seen_below log files n low =
-    ap (λ (b : Bool). cond b (pieces_of files n) (cond (n == log.number && not (log.used == 0)) (Some (n == log.first, take log.used (drop 16 log.page))) None)) (lt-ltb n log.number low)
-
-found_readable : (files : LogFiles) (log : LogValue) (n : ℕ) → IsFound log files (8176 * n) → (front : List Piece) × IsFront (pieces_of files) n true front × IsReadable log files (8176 * n) front × (log.number ≡ n + length front)
-found_readable files log n is =
-    let div : 8176 * n / 8176 ≡ n = omega arith in
-    let front : IsFront (pieces_of files) n true is.whole = subst (λ (k : ℕ). IsFront (pieces_of files) k true is.whole) div is.front in
-    let number : log.number ≡ n + length is.whole = is.ends.fills.number_is ∙ ap (λ (k : ℕ). k + length is.whole) div in (
-      is.whole,
-      front,
-      record {
-        based = is.based;
-        stand = stand_same (pieces_of files) (seen log files) (8176 * n / 8176) true is.whole (λ k from below. seen_below log files k (omega (arith, below, is.ends.fills.number_is))) is.front.stand;
-        end = sym is.ends.fills.number_is ∙ (let e : log.number ≡ log.number + 0 = omega arith in e) ∙ ap (λ (b : Bool). log.number + cond b 0 1) (sym none);
-      },
-      number,
-    )
-  where
-    none : (log.used == 0) ≡ true
-    none = ap (λ (k : ℕ). k == 0) is.ends.fills.used_is
-
 pub readable_of : (control : Found) (files : LogFiles) (start : Lsn) (found : FoundValue) → IsStart control files start → IsLsn start → Finds start files found → IsReadFrom start files found.log
 readable_of control files start found starts lsn finds =
     let (k, first) = start_file control files start starts lsn finds.missing in
@@ -90,8 +68,16 @@ readable_of control files start found starts lsn finds =
     let same : finds.base ≡ 8176 * n = same_Some finds.base (8176 * n) (sym finds.base_is ∙ base) in
     let is : IsFound found.log files (8176 * n) = subst (λ (b : ℕ). IsFound found.log files b) same
     (⊎_elim (λ (f : IsFound found.log files finds.base). f) (λ outside. absurd (outside.0 (subst (λ (b : ℕ). IsBase (pieces_of files) b) (sym same) (inl (let e : 8176 * n % 8176 ≡ 0 = omega arith in e))))) finds.stands) in
-    let (front, is_front, readable, number) = found_readable files found.log n is in
-    record { n = n; front = front; is_front = is_front; readable = readable; first = first ∙ first_at k; base_is = base; number_is = number }
+    let div : 8176 * n / 8176 ≡ n = omega arith in
+    record {
+      n = n;
+      front = is.whole;
+      is_front = subst (λ (m : ℕ). IsFront (pieces_of files) m true is.whole) div is.front;
+      readable = found_readable found.log files (8176 * n) is;
+      first = first ∙ first_at k;
+      base_is = base;
+      number_is = is.ends.fills.number_is ∙ ap (λ (m : ℕ). m + length is.whole) div;
+    }
 
 -- ---- what is told
 

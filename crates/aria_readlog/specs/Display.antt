@@ -1,13 +1,14 @@
 -- What is told of a folder, and which answer it gets.
-use Rattle.std.specs.Prelude.{◌≡◌, ◌⊎◌, ⊤, ℕ, ◌/◌, Bool, true, Option, Some, None, List, ◌++◌, take, Result, Ok, Err}
+use Rattle.std.specs.Prelude.{◌≡◌, ◌⊎◌, ⊤, ℕ, ◌/◌, Bool, true, Option, Some, None, List, ◌++◌, take, Result, Ok, Err, IsErrOf}
 use Rattle.aria_page.specs.declared.lsn.Lsn.{Lsn}
 use Rattle.aria_host.specs.declared.fault.Fault.{Fault}
 use Rattle.aria_host.specs.declared.fault.Fault.TheVariants.{Memory, Disk, Tell, LogDamaged, ControlDamaged, NotOurs, FileMissing}
 use Rattle.aria_host.specs.declared.file_name.FileName.TheVariants.{Log}
+use Rattle.aria_host.specs.declared.host.Extent.{Extent}
 use Rattle.aria_host.specs.Folder.{Folder}
 use Rattle.aria_host.specs.State.{State}
 use Rattle.aria_control.specs.declared.found.Found.{Found}
-use Rattle.aria_control.specs.Found.{Finds, Answers as ControlAnswers}
+use Rattle.aria_control.specs.Found.{control_file, whole_pages, Finds, Answers as ControlAnswers}
 use Rattle.aria_log.specs.declared.find.Damage.{Damage}
 use Rattle.aria_log.specs.Pieces.{Piece, log_files, pieces_of, IsFront}
 use Rattle.aria_log.specs.Files.{IsSoundLog}
@@ -112,11 +113,15 @@ abbrev pub Agree : Result (Unit {0}) Fault → Result (Unit {0}) Fault → Type 
 Agree a b = (a ≡ b) ⊎ (IsDamaged a × IsDamaged b)
 
 -- the disk, memory or the output failed
-abbrev pub Fails : Result (Unit {0}) Fault → Type 0
+abbrev pub Fails : {T : Type 0} → Result T Fault → Type 0
 Fails (Err Disk) = ⊤
 Fails (Err (Memory error)) = ⊤
 Fails (Err Tell) = ⊤
 Fails _ = ⊥
+
+-- A control file whose length, as it was looked up, is no multiple of a page's isn't ours.
+abbrev pub FitsLength : {T : Type 0} → Option Extent → Result T Fault → Type 0
+FitsLength looked result = whole_pages looked ≡ None → IsErrOf result (NotOurs control_file)
 
 -- the faults that are answered
 abbrev pub IsDisplayFault : Fault → Type 0

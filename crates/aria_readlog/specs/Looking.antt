@@ -41,6 +41,6 @@ pub record IsLooked (folder : Folder) (found : FoundValue) (first : Lsn) : Type 
 
 -- The log wasn't found: the disk or memory failed, or the folder is answered so, and no other answer fits.
 pub record IsRefused (folder : Folder) (fault : Fault) : Type 0 where
-  pub answer : Fails (Err fault) ⊎ Answers (Err fault) folder
-  pub only : (other : Result (Unit {0}) Fault) → Answers other folder → Fails (Err fault) ⊎ Agree other (Err fault)
+  pub answer : Fails {T = Unit {0}} (Err fault) ⊎ Answers (Err fault) folder
+  pub only : (other : Result (Unit {0}) Fault) → Answers other folder → Fails {T = Unit {0}} (Err fault) ⊎ Agree other (Err fault)
   pub whole : ¬ IsDamaged (Err fault)

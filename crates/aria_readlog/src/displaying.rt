@@ -1,9 +1,11 @@
 //! Tells what stands in the log of a folder.
 
-ghost use Rattle.std.specs.Prelude.{◌≡◌, ◌⊎◌, ◌++◌, ◌*◌, ℕ, List, Result, true, false, IsTrue, OnOk, OnErr, is_ok};
+ghost use Rattle.std.specs.Prelude.{◌≡◌, ◌⊎◌, ◌++◌, ◌*◌, ℕ, List, Option, Result, true, false, IsTrue, OnOk, OnErr, is_ok};
 ghost use Rattle.std.specs.String.{string_bytes};
 ghost use Rattle.aria_host.specs.declared.fault.Fault.{Fault as Failure};
+ghost use Rattle.aria_host.specs.declared.host.Extent.{Extent};
 ghost use Rattle.aria_host.specs.State.{LeavesOnly};
+ghost use Rattle.aria_control.specs.Found.{control_file};
 ghost use Rattle.aria_log.specs.Pieces.{Piece, log_files};
 ghost use Rattle.aria_log.specs.Groups.{lsn_at_place};
 ghost use Rattle.aria_log.specs.Reading.{entries_of_runs, IsReadable};
@@ -11,7 +13,7 @@ ghost use Rattle.aria_readlog.specs.Line.{last_line};
 ghost use Rattle.aria_readlog.specs.Choice.{all_lines, total_line};
 ghost use Rattle.aria_readlog.specs.Telling.{Shows, HasCause, IsReadFault};
 ghost use Rattle.aria_readlog.specs.Listing.{Adds};
-ghost use Rattle.aria_readlog.specs.Display.{choice, AtDisplay, Answers, Agree, Fails, IsDamaged, IsDisplay, IsDisplayFault, IsEnd, IsTold, Keeps};
+ghost use Rattle.aria_readlog.specs.Display.{choice, AtDisplay, Answers, Agree, Fails, FitsLength, IsDamaged, IsDisplay, IsDisplayFault, IsEnd, IsTold, Keeps};
 
 use crate::choice::Choice;
 use crate::line::push_last;
@@ -125,6 +127,9 @@ pub fn display<H: Host>(
     // Unless the disk, memory or the output fails it answers what the folder says, and no other answer fits.
     ensures answer { IsTrue H.tells → Fails result ⊎ Answers result (H.state host.old).folder }
     ensures only { IsTrue H.tells → (other : Result (Unit {0}) Failure) → Answers other (H.state host.old).folder → Fails result ⊎ Agree other result }
+
+    // A control file whose length is no multiple of a page's, as the host's look found it, is answered by NotOurs.
+    ensures length { Fails result ⊎ ((extent : Option Extent) × H.may_find host.old control_file extent × FitsLength extent result) }
     ensures cause { HasCause IsDisplayFault (H.state host.old) (H.state host.new) result }
 {
     let looked = look(alloc, host)?;

@@ -1,9 +1,11 @@
 //! Finds the log of a folder.
 
-ghost use Rattle.std.specs.Prelude.{IsTrue, IfOk, IfErr};
+ghost use Rattle.std.specs.Prelude.{◌⊎◌, Option, IsTrue, IfOk, IfErr};
 ghost use Rattle.aria_host.specs.Calls.{Narrows};
+ghost use Rattle.aria_host.specs.declared.host.Extent.{Extent};
+ghost use Rattle.aria_control.specs.Found.{control_file};
 ghost use Rattle.aria_readlog.specs.Telling.{HasCause};
-ghost use Rattle.aria_readlog.specs.Display.{IsDisplayFault};
+ghost use Rattle.aria_readlog.specs.Display.{Fails, FitsLength, IsDisplayFault};
 ghost use Rattle.aria_readlog.specs.Looking.{IsLooked, IsRefused};
 
 use crate::start::{start, start_of};
@@ -24,6 +26,7 @@ pub struct Looked {
 pub(crate) fn look<H: Host>(alloc: Global, host: &mut H) -> Result<Looked, Fault>
     ensures looked { IsTrue H.tells → IfOk result (λ looked. IsLooked (H.state host.old).folder looked.found looked.first) }
     ensures refused { IsTrue H.tells → IfErr result (IsRefused (H.state host.old).folder) }
+    ensures length { Fails result ⊎ ((extent : Option Extent) × H.may_find host.old control_file extent × FitsLength extent result) }
     ensures same { IsTrue H.tells → Narrows (H.state host.old) (H.state host.new) }
     ensures cause { HasCause IsDisplayFault (H.state host.old) (H.state host.new) result }
 {
