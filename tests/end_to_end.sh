@@ -128,15 +128,58 @@ done
 fresh
 goes_on 'no words' 2 "$bad_words" create.aria
 tells_text 'no words' ''
-for word in Run ru runs '' --help -- $'\xff' $'run\xff'; do
+for word in Run ru runs '' --help -- $'\xff' $'run\xff' read_log; do
     goes_on "the word '$word'" 2 "$bad_words" create.aria "$word"
     tells_text "the word '$word'" ''
 done
 goes_on 'a word behind run' 2 "$bad_words" create.aria run run
 goes_on 'no text behind run' 2 "$bad_words" create.aria run $'\xff'
+for options in -s '-d -d' '-s -s' '-d -s -s' -ds '-d run'; do
+    read -ra words <<< "$options"
+    goes_on "read_log $options" 2 "$bad_words" create.aria read_log "${words[@]}"
+    tells_text "read_log $options" ''
+done
 (cd folder && exec ../aria) < /dev/null > told 2> /dev/full
 is_status 'standard error is full' 2 $?
 [[ -z $(ls -A folder) ]] || fail 'bad words make files'
+
+# what stands in the log
+# reads_log NAME STATUS ERROR LINES LAST: read_log with each of its options tells lines and a last line, or the last line
+# alone; it takes nothing from its input, which can't be read, and leaves the folder as it is
+reads_log() {
+    local options words
+    snapshot > before
+    for options in -d --display-only '-d -s' '-s -d' '--display-only --silent' '--silent --display-only'; do
+        read -ra words <<< "$options"
+        goes_on "$1, $options" "$2" "$3" "$room" read_log "${words[@]}"
+        if [[ ${#words[@]} -eq 1 ]]; then
+            tells_text "$1, $options" "$4$5"
+        else
+            tells_text "$1, $options" "$5"
+        fi
+    done
+    snapshot | cmp -s - before || fail "$1: the folder has changed"
+}
+fresh
+reads_log 'the log of an empty folder' 0 '' '' $'groups 0 incomplete 0\n'
+goes_on 'a journal' 0 '' create.aria run
+reads_log 'the log beside a journal' 5 $'aria: missing aria_log_control\n' '' ''
+
+# page FILE BYTES: the last page of a file that begins with these bytes, as printf takes them
+page() {
+    printf "$2" >> "$1"
+    truncate -s %8192 "$1"
+}
+commit='\xea\xa9\xcb\x6d\0\0\x01\0\0\0\0\x0a\x01\0\0\x0a\0\0\0\x06\x01\x0f'
+fresh
+page folder/aria_log_control 'ge\x011ARIAOWN1\0\0\x02\0\0\x20\x10\0\0\x01\0\0\0\x10'
+page "$log" "$commit"
+reads_log 'the log of a commit' 0 '' $'(1,0x10) COMMIT\n' $'groups 1 incomplete 0\n'
+(cd folder && exec ../aria read_log -d) < /dev/null > /dev/full 2> error
+is_status 'the log on a full standard output' 7 $?
+is_error 'the log on a full standard output' ''
+printf 'x' | dd of=folder/aria_log_control bs=1 seek=100 conv=notrunc status=none
+reads_log 'a damaged control file' 5 $'aria: damaged control\n' '' ''
 
 # ends of the input
 runs 'an empty input' 0 '' /dev/null run

@@ -1,3 +1,5 @@
+mod read_log;
+
 use crate::{Command, WordList, aria};
 use aria_host::{Fate, FileName, MemHost, MemSource, Stream};
 use aria_page::{Bytes, List, Page};
