@@ -145,6 +145,25 @@ fn a_group_and_a_rest_that_a_crash_left(rt: HostRuntime) -> Result<(), Fail> {
     Ok(())
 }
 
+// The example of docs/TOOLS.md: a row that was inserted, the statement's end, and what a crash left of a further run.
+#[test]
+fn an_insert_as_the_manual_shows_it(rt: HostRuntime) -> Result<(), Fail> {
+    let alloc = rt.alloc();
+    let mut host = folder_with(
+        alloc,
+        b"\0\0\0\x45\x02\x01\0\0\0\x22\x01t\x01\0\0\0\x01\x02\0\0\x10\0\x0Ctwelve bytes\0\x1F\x40\0\x04four\x0A\0\0\0\x18\x01t\0\0\0\0\0\0\0\0\0\0\x01\0\0\0\0\0\0\0\0\0\0\0\0\0\0\x06\x01\x0F\0\0\0\0",
+    )?;
+    host.set_page(&LOG, 1, &log_page(1, 1, &COMMIT[..9]))?;
+    assert!(rt;
+        tells(
+            alloc,
+            &mut host,
+            b"(1,0x10) REDO_INSERT_ROW_HEAD t part data page 1 edits 2\n(1,0x10) UNDO_ROW_INSERT t prev (0,0x0) place 1 0\n(1,0x59) COMMIT\n(1,0x2010) INCOMPLETE_GROUP 9\ngroups 2 incomplete 1\n"
+        )
+    );
+    Ok(())
+}
+
 // Whether one group is told so, behind its number.
 fn is_told(alloc: Global, group: &[u8], line: &[u8]) -> Result<bool, AllocError>
     requires { length group.now ≤ 8176 }
