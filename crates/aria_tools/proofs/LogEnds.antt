@@ -158,7 +158,7 @@ log_completes r status h h0 h1 cause end disk_later tell_later disk tell =
     of (inr (inr (inr (inr is)))) = absurd (tell (log_tell r status h h0 h1 cause end tell_later is))
 
 -- a fault that its line names stands in the folder
-named_stands : (fault : Fault) (folder : Folder) → IsTrue (is_named fault) → Fails (Err fault) ⊎ Answers (Err fault) folder → (status_of (why.Fault fault) ≡ 5) × Answers (Err fault) folder
+named_stands : (fault : Fault) (folder : Folder) → IsTrue (is_named fault) → Fails {T = Unit {0}} (Err fault) ⊎ Answers (Err fault) folder → (status_of (why.Fault fault) ≡ 5) × Answers (Err fault) folder
 named_stands (Memory error) folder named answer = absurd (cc)
 named_stands Disk folder named answer = absurd (cc)
 named_stands Tell folder named answer = absurd (cc)
