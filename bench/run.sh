@@ -69,39 +69,7 @@ done
 rm -rf "$quick"
 sync
 
-cat > append.c <<'E'
-#define _GNU_SOURCE
-#include <fcntl.h>
-#include <stdlib.h>
-#include <unistd.h>
-
-int main(int count, char **words) {
-    static char page[8192];
-    long pages = count > 1 ? atol(words[1]) : 0;
-    int file = open("appended", O_RDWR | O_CREAT | O_TRUNC, 0644);
-    for (long n = 0; n < pages; n++) {
-        page[n % 8192]++;
-        if (pwrite(file, page, 8192, n * 8192) != 8192 || fdatasync(file) != 0)
-            return 1;
-    }
-    return close(file);
-}
-E
-cc -O2 -o append append.c
-
-# timed NAME COMMAND..: the time of one run, in microseconds, is added to `times.NAME`.
-timed() {
-    local name=$1
-    shift
-    local begin=${EPOCHREALTIME/[.,]/}
-    "$@"
-    local end=${EPOCHREALTIME/[.,]/}
-    echo $((end - begin)) >> "times.$name"
-}
-
-median() {
-    sort -n "times.$1" | sed -n 3p
-}
+. "$top/bench/timing.sh"
 
 in_new_folder() {
     rm -rf folder
