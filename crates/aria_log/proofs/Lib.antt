@@ -18,6 +18,7 @@ pub mod Blank
 pub mod Testing
 pub mod Zeros
 pub mod Later
+pub mod Bases
 pub mod Purging
 pub mod Purged
 pub mod GroupReads

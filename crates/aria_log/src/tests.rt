@@ -1,17 +1,22 @@
-ghost use Rattle.std.specs.Prelude.{IfOk, OnOk, ℕ, ◌<◌, ◌^◌};
+ghost use Rattle.std.specs.Prelude.{◌≡◌, false, IfOk, OnOk, ℕ, List as Seq, ◌<◌, ◌≤◌, ◌^◌};
+ghost use Rattle.aria_page.specs.Lsn.{IsLsn};
 ghost use Rattle.aria_host.specs.MemHost.{mem_state};
-ghost use Rattle.aria_log.specs.Log.{HasNoLog, IsRunning};
+ghost use Rattle.aria_log.specs.Groups.{Logged};
+ghost use Rattle.aria_log.specs.Log.{HasNoLog, IsOpened, IsRunning};
+ghost use Rattle.aria_log.specs.Finding.{means_none};
 ghost use Rattle.aria_log.specs.Spelling.{IsSpelled};
 
 mod boundary;
+mod crashes;
 mod faults;
 mod purging;
 mod rooms;
 mod walking;
 
 use crate::Log;
+use crate::log_page::BODY_AT;
 use aria_host::{Fault, FileName, MemHost};
-use aria_page::{Bytes, List};
+use aria_page::{Bytes, List, Lsn, PAGE_BYTES, Page};
 use aria_record::{Group, Record, encode_group};
 use std::alloc::{AllocError, Global};
 use std::test::Fail;
@@ -21,8 +26,69 @@ fn empty_folder(alloc: Global) -> Result<MemHost, AllocError>
     ensures { IfOk result (λ host. HasNoLog (mem_state host)) }
 {
     let mut host = MemHost::new(alloc);
-    host.reserve(4000, 0)?;
+    host.reserve(100, 0)?;
     Ok(host)
+}
+
+// A host with room for some calls, of which none fails.
+fn room_for(alloc: Global) -> Result<MemHost, AllocError> {
+    let mut host = MemHost::new(alloc);
+    host.reserve(100, 0)?;
+    Ok(host)
+}
+
+// A host whose call of this number fails.
+fn failing_host(alloc: Global, fails: u64) -> Result<MemHost, AllocError> {
+    let mut host = room_for(alloc)?;
+    host.plan_fault(fails)?;
+    Ok(host)
+}
+
+// Opens the log from the first byte of a page on.
+fn open_at(alloc: Global, host: &mut MemHost, file: u32, page: u32) -> Result<Log, Fault>
+    requires file { file < 2 ^ 24 }
+    requires page { page < 1024 }
+    ensures { IfOk result (λ log. (base : ℕ) × (groups : Seq Logged) × IsOpened log (mem_state host.new) base groups log.last) }
+{
+    let _file = FileName::Log(1);
+    let log = Log::open(alloc, host, first_byte(file, page))?;
+    Ok(log)
+}
+
+// Starts a log that was opened.
+fn start(log: &mut Log, host: &mut MemHost) -> Result<(), Fault>
+    requires { (base : ℕ) × (groups : Seq Logged) × IsOpened log.old (mem_state host.old) base groups log.old.last }
+    ensures { OnOk result (IsRunning log.new (mem_state host.new)) }
+{
+    let _file = FileName::Log(1);
+    log.start(host)?;
+    Ok(())
+}
+
+// Starts the log of a folder in which it ends before this page of a file: only zeros stand there.
+fn begin_before(alloc: Global, host: &mut MemHost, file: u32, page: u32) -> Result<Log, Fault>
+    requires file { file < 2 ^ 24 }
+    requires some { 1 ≤ page }
+    requires page { page < 1024 }
+    ensures { IfOk result (λ log. IsRunning log (mem_state host.new)) }
+{
+    host.set_page(&FileName::Log(file), page - 1, &Page::zero())?;
+    let mut log = open_at(alloc, host, file, page)?;
+    start(&mut log, host)?;
+    Ok(log)
+}
+
+// The place of the first byte of a page's body.
+fn first_byte(file: u32, page: u32) -> Lsn
+    requires file { file < 2 ^ 24 }
+    requires page { page < 1024 }
+    ensures form { IsLsn result }
+    ensures given { means_none result ≡ false }
+{
+    Lsn {
+        file,
+        offset: page * PAGE_BYTES as u32 + BODY_AT as u32,
+    }
 }
 
 // The bytes of the group that is one COMMIT: ten of them (docs/FORMATS.md, "Groups").
@@ -124,24 +190,5 @@ fn a_force_makes_room_ahead(rt: HostRuntime) -> Result<(), Fail> {
     force_all(alloc, &mut log, &mut host, 2)?;
     assert!(rt; !is_blank(&host, 3) && is_blank(&host, 7));
     assert!(rt; host.page(&FileName::Log(1), 8).is_none());
-    Ok(())
-}
-
-// Each force closes a page, so the 1025th is the first page of the second file.
-#[test]
-fn a_log_goes_on_in_the_next_file(rt: HostRuntime) -> Result<(), Fail> {
-    let alloc = rt.alloc();
-    let mut host = empty_folder(alloc)?;
-    let mut log = begin(&mut host)?;
-    force_all(alloc, &mut log, &mut host, 1024)?;
-    assert!(rt; host.page(&FileName::Log(2), 0).is_none());
-    assert_eq!(rt; log.end().file, 2);
-    assert_eq!(rt; log.end().offset, 16);
-    commit_all(alloc, &mut log, &mut host, 1)?;
-    let page = host.page(&FileName::Log(2), 0).ok_or("no page")?;
-    let front = [
-        0xB0, 0x81, 0x73, 0xD3, 0, 0, 2, 0, 0, 0, 0, 10, 1, 0, 0, 10, 0, 0, 0, 6, 1, 15, 0, 0, 0, 0,
-    ];
-    assert!(rt; page.bytes().starts_with(&front));
     Ok(())
 }

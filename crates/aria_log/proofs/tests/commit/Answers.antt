@@ -1,4 +1,4 @@
-use Rattle.std.proofs.Common.{◌≡◌, ◌∙◌, List, [], ◌∷◌, ◌++◌, sym, ap, subst}
+use Rattle.std.proofs.Common.{◌∙◌, List, [], ◌∷◌, ◌++◌, sym, ap, subst}
 use Rattle.aria_record.specs.declared.record.Record.{Record}
 use Rattle.aria_record.specs.declared.record.Record.TheVariants.{Commit}
 use Rattle.aria_record.specs.Groups.{IsGroup}
