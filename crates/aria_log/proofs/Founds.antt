@@ -18,11 +18,11 @@ use Rattle.aria_log.specs.Groups.{groups_from}
 use Rattle.aria_log.specs.Files.{HoldsLog, IsBase, IsSoundLog}
 use Rattle.aria_log.specs.Log.{Fills, IsBaseOf}
 use Rattle.aria_log.specs.Reading.{seen, IsReadable}
-use Rattle.aria_log.specs.Finding.{means_none, start_of, place_of, base_of, NoneMissing, IsLast, EndsFront, IsUndamaged, IsDamageBehind, IsDamageFrom, Ends, IsFound, Finds, FindAnswers, Fails, HasFindCause}
+use Rattle.aria_log.specs.Finding.{means_none, start_of, place_of, base_of, NoneMissing, IsLast, EndsFront, IsUndamaged, IsBrokenAt, IsDamageBehind, IsDamageFrom, Ends, IsFound, Finds, Answers, IsNowhere, Fails, HasFindCause}
 use Rattle.aria_log.proofs.LogPages.{read_is_valid}
 use Rattle.aria_log.proofs.Appending.{not_done}
 use Rattle.aria_log.proofs.Counting.{place_file, place_page}
-use Rattle.aria_log.proofs.Fronts.{next_of, stand_same}
+use Rattle.aria_log.proofs.Fronts.{next_of, stand_same, front_unique}
 
 -- ---- the base
 
@@ -145,6 +145,14 @@ no_damage files base end file page sound (inl long) = omega (arith, long.many, s
 no_damage files base end file page sound (inr broken) =
     let e : false ≡ true = sym (sound.quiet broken.behind.at broken.behind.piece broken.behind.behind broken.behind.valid) ∙ broken.behind.begins in cc
 
+pub sound_undamaged : (files : LogFiles) (base : ℕ) (whole : List Piece) (file page : ℕ) → IsSoundLog files base (base / 8176 + length whole) → IsFront (pieces_of files) (base / 8176) true whole → IsDamageFrom files base file page → ⊥
+sound_undamaged files base whole file page sound front (inl outside) = outside.outside sound.based
+sound_undamaged files base whole file page sound front (inr (inl long)) = no_damage files base (base / 8176 + length whole) file page sound (inl long)
+sound_undamaged files base whole file page sound front (inr (inr broken)) =
+    let same : broken.front.whole ≡ whole = front_unique (pieces_of files) (base / 8176) true broken.front.whole whole broken.front.front front in
+    let at : broken.end ≡ base / 8176 + length whole = broken.front.end_is ∙ ap (λ (l : List Piece). base / 8176 + length l) same in
+    no_damage files base (base / 8176 + length whole) file page sound (inr (subst (λ (n : ℕ). IsBrokenAt files n file page) at broken.at))
+
 -- where the log value ends
 pub ends_at : (log : LogValue) (files : LogFiles) (base last end : ℕ) → log.number ≡ end → log.first ≡ end → Fills log end [] → log.last ≡ last → end < 2 ^ 34 → IsLast files (base / 8176 / 1024) last → Ends log files base end
 ends_at log files base last end number first fills last_is high is = record {
@@ -158,7 +166,6 @@ ends_at log files base last end number first fills last_is high is = record {
 pub finds_inside : (from : Lsn) (files : LogFiles) (base end : ℕ) (found : FoundValue) → NoneMissing from files → base_of from ≡ Some base → IsBase (pieces_of files) base → EndsFront files (base / 8176) end → Ends found.log files base end
     → MatchOption found.damage (IsUndamaged files (base / 8176 / 1024) end) (λ d. IsDamageBehind files (base / 8176 / 1024) end d.file d.page) → Finds from files found
 finds_inside from files base end found missing is based front ends damage = record {
-  missing = missing;
   base = base;
   base_is = is;
   stands = inl (record {
@@ -184,7 +191,6 @@ finds_inside from files base end found missing is based front ends damage = reco
 pub finds_outside : (from : Lsn) (files : LogFiles) (base : ℕ) (log : LogValue) (d : Damage) → NoneMissing from files → base_of from ≡ Some base → ¬ IsBase (pieces_of files) base → Ends log files base (base / 8176)
     → d.file ≡ base / 8176 / 1024 → d.page ≡ base / 8176 % 1024 → Finds from files (record { log = log; damage = Some d })
 finds_outside from files base log d missing is outside ends file page = record {
-  missing = missing;
   base = base;
   base_is = is;
   stands = inr (outside, ends);
@@ -195,9 +201,10 @@ finds_outside from files base log d missing is outside ends file page = record {
 -- ---- answers
 
 -- what is answered where the folder's files were read
-pub answers_of : (from : Lsn) (files : LogFiles) (result : Result FoundValue Fault) → IfErr result (λ fault. fault ≡ Disk) → IfOk result (λ found. Finds from files found) → Fails result ⊎ FindAnswers from files result
-answers_of from files (Ok found) only finds = inr finds
-answers_of from files (Err fault) only finds = inl (subst (λ (f : Fault). let r : Result FoundValue Fault = Err f in Fails r) (sym only) (search rules))
+pub answers_of : (from : Lsn) (files : LogFiles) (result : Result FoundValue Fault) → NoneMissing from files → IfErr result (λ fault. fault ≡ Disk) → IfOk result (λ found. Finds from files found)
+    → Fails result ⊎ Answers from files (Finds from files) (IsNowhere from) result
+answers_of from files (Ok found) missing only finds = inr (missing, finds)
+answers_of from files (Err fault) missing only finds = inl (subst (λ (f : Fault). let r : Result FoundValue Fault = Err f in Fails r) (sym only) (search rules))
 
 -- a file is missing, and no fault was counted
 pub missing_cause : {T : Type 0} (old new : State) (result : Result T Fault) (fault : Fault) (f : ℕ) → result ≡ Err fault → fault ≡ FileMissing (LogFile f) → new.disk_faults ≡ old.disk_faults → new.tell_faults ≡ old.tell_faults → HasFindCause old new result

@@ -1,6 +1,7 @@
 -- What has been read of a log from a page on.
-use Rattle.std.proofs.Common.{◌≡◌, ◌==◌, ◌||◌, ℕ, ◌+◌, ◌-◌, ◌/◌, ◌%◌, ◌^◌, ◌≤◌, Bool, true, false, if◌then◌else◌, is_some, Option, None, Some, List, [], ◌∷◌, ◌++◌, length, take, drop, refl, sym, ◌∙◌, ap, subst, arith, length-append}
+use Rattle.std.proofs.Common.{inl, inr, ◌≡◌, ◌==◌, ◌||◌, ℕ, ◌+◌, ◌-◌, ◌/◌, ◌%◌, ◌^◌, ◌<◌, ◌≤◌, Bool, true, false, if◌then◌else◌, is_some, Option, None, Some, List, [], ◌∷◌, ◌++◌, length, take, drop, refl, sym, ◌∙◌, ap, subst, arith, length-append}
 use Rattle.std.specs.Prelude.{option_and_then}
+use Rattle.std.proofs.lemmas.Bool.{cases_lt}
 use Rattle.aria_host.specs.Seen.{page_or_zero}
 use Rattle.aria_log.specs.Pieces.{Piece, LogFiles, pieces_of, next_piece, Stand, is_full, may_behind}
 use Rattle.aria_log.specs.Finding.{EndsFront}
@@ -69,3 +70,14 @@ loaded_none (Some p) e = absurd (cc)
 pub last_piece : (files : LogFiles) (n : ℕ) → 2 ^ 34 - 1 ≤ n → pieces_of files n ≡ None
 unfolding pieces_of
 last_piece files n high = high_reads n (page_or_zero (n % 1024) (files (n / 1024))) high
+
+-- the last page is never used, so it isn't read
+pub never_all : (files : LogFiles) (first number : ℕ) (may : Bool) → first < 2 ^ 34 → number ≡ 2 ^ 34 → IsReadTo files first number may → ⊥
+never_all files first number may low at is = unread (is.front) first true low (omega (arith, is.at, at)) is.stand
+  where
+    unread : (ps : List Piece) (n : ℕ) (may : Bool) → n < 2 ^ 34 → n + length ps ≡ 2 ^ 34 → Stand (pieces_of files) n may ps → ⊥
+    unread [] n may low at stand = omega (arith, low, at)
+    unread (p ∷ ps) n may low at stand = elim (cases_lt n (2 ^ 34 - 1)) [
+      | inl less ↦ unread ps (n + 1) (is_full p) (omega (arith, less)) (omega (arith, at)) stand.1
+      | inr last ↦ let e : None ≡ Some p = sym (next_none (pieces_of files) n may (last_piece files n last)) ∙ stand.0 in cc
+    ]

@@ -11,7 +11,7 @@ use Rattle.aria_host.specs.Count.{Rose}
 use Rattle.aria_host.specs.State.{State}
 use Rattle.aria_log.specs.declared.log.Log.{Log as LogValue}
 use Rattle.aria_log.specs.declared.find.Found.{Found as FoundValue}
-use Rattle.aria_log.specs.Pieces.{Piece, LogFiles, log_files, pieces_of, IsFront}
+use Rattle.aria_log.specs.Pieces.{Piece, LogFiles, pieces_of, IsFront}
 use Rattle.aria_log.specs.Files.{IsBase, IsQuiet, IsSoundLog}
 use Rattle.aria_log.specs.Groups.{Logged}
 use Rattle.aria_log.specs.Log.{Fills, IsBaseOf, IsOpened, file_of}
@@ -103,6 +103,11 @@ pub record EndsFront (files : LogFiles) (first end : ℕ) : Type 0 where
   pub front : IsFront (pieces_of files) first true whole
   pub end_is : end ≡ first + length whole
 
+-- Pages were read from one on, up to another. If a file is noted it has too many pages, and else none of theirs does.
+pub record IsNoted (files : LogFiles) (first to : ℕ) (long : Option ℕ) : Type 0 where
+  pub few : long ≡ None → (n : ℕ) → first ≤ n → n < to → option_map_or length (files (n / 1024)) 0 ≤ 1024
+  pub many : IfSome long (λ f. (first / 1024 ≤ f) × (f < 2 ^ 24) × (1024 < option_map_or length (files f) 0))
+
 -- no file from this one on has too many pages, and no page from the end on begins a run
 pub record IsUndamaged (files : LogFiles) (low end : ℕ) : Type 0 where
   pub few : (f : ℕ) → low ≤ f → f < 2 ^ 24 → option_map_or length (files f) 0 ≤ 1024
@@ -148,22 +153,23 @@ pub record IsFound (log : LogValue) (files : LogFiles) (base : ℕ) : Type 0 whe
   pub based : IsBaseOf base whole
   pub ends : Ends log files base (base / 8176 + length whole)
 
--- No file is missing. The log was found; where the base isn't in it, the log value ends before the base's page. Damage is
+-- The log was found from this base on; where the base isn't in it, the log value ends before the base's page. Damage is
 -- told exactly where there is some.
 pub record Finds (from : Lsn) (files : LogFiles) (found : FoundValue) : Type 0 where
-  pub missing : NoneMissing from files
   pub base : ℕ
   pub base_is : base_of from ≡ Some base
   pub stands : IsFound found.log files base ⊎ ((¬ IsBase (pieces_of files) base) × Ends found.log files base (base / 8176))
   pub sound : (found.damage ≡ None) ↔ IsSoundLog files base found.log.number
   pub damaged : IfSome found.damage (λ d. IsDamageFrom files base d.file d.page)
 
--- what is answered of the log's files: what is found, the lowest file that is missing, or that no byte has the number
-abbrev pub FindAnswers : Lsn → LogFiles → Result FoundValue Fault → Type 0
-FindAnswers from files (Ok found) = Finds from files found
-FindAnswers from files (Err (FileMissing file)) = (f : ℕ) × (file ≡ LogFile f) × IsMissing from files f
-FindAnswers from files (Err (LogDamaged file page)) = NoneMissing from files × IsNowhere from file page
-FindAnswers from files (Err _) = ⊥
+-- the log was opened from this base on
+pub record Opens (from : Lsn) (s : State) (log : LogValue) : Type 0 where
+  pub base : ℕ
+  pub base_is : base_of from ≡ Some base
+  pub groups : List Logged
+  pub opened : IsOpened log s base groups log.last
+
+-- ---- what is answered
 
 -- the disk or memory failed
 abbrev pub Fails : {T : Type 0} → Result T Fault → Type 0
@@ -187,9 +193,22 @@ pub record HasFindCause {T : Type 0} (old new : State) (result : Result T Fault)
   pub later : old.disk_faults ≤ new.disk_faults
   pub tell : new.tell_faults ≡ old.tell_faults
 
--- What is answered as a log is opened: the log, the lowest file that is missing, or a page at which there is damage.
-abbrev pub OpenAnswers : Lsn → State → State → Result LogValue Fault → Type 0
-OpenAnswers from old new (Ok log) = NoneMissing from (log_files old.folder) × (base : ℕ) × (base_of from ≡ Some base) × (groups : List Logged) × IsOpened log new base groups log.last
-OpenAnswers from old new (Err (FileMissing file)) = (f : ℕ) × (file ≡ LogFile f) × IsMissing from (log_files old.folder) f
-OpenAnswers from old new (Err (LogDamaged file page)) = NoneMissing from (log_files old.folder) × IsDamage from (log_files old.folder) file page
-OpenAnswers from old new (Err _) = ⊥
+-- What is answered of the log's files: the lowest one that is missing, or damage, or what is asked for. P is known of what
+-- is asked for, and D of the damage that is answered.
+abbrev pub Answers : {T : Type 0} → Lsn → LogFiles → (T → Type 0) → (ℕ → ℕ → Type 0) → Result T Fault → Type 0
+Answers from files P D (Ok x) = NoneMissing from files × P x
+Answers from files P D (Err (FileMissing file)) = (f : ℕ) × (file ≡ LogFile f) × IsMissing from files f
+Answers from files P D (Err (LogDamaged file page)) = NoneMissing from files × D file page
+Answers from files P D (Err _) = ⊥
+
+-- a file is told to be missing exactly where it is the lowest that is
+abbrev pub TellsMissing : {T : Type 0} → Lsn → LogFiles → Result T Fault → Type 0
+TellsMissing from files result = (f : ℕ) → IsErrOf result (FileMissing (LogFile f)) ↔ IsMissing from files f
+
+-- a byte is told not to be in the log's files exactly where none has that number, and no file is missing
+abbrev pub TellsNowhere : {T : Type 0} → Lsn → LogFiles → Result T Fault → Type 0
+TellsNowhere from files result = (file page : ℕ) → IsErrOf result (LogDamaged file page) ↔ (NoneMissing from files × IsNowhere from file page)
+
+-- no file is missing, and there is no damage
+abbrev pub IsWhole : Lsn → LogFiles → Type 0
+IsWhole from files = NoneMissing from files × ((file page : ℕ) → ¬ IsDamage from files file page)

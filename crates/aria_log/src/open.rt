@@ -1,12 +1,12 @@
 //! Opens the log of a folder.
 
-ghost use Rattle.std.specs.Prelude.{◌≡◌, ◌⊎◌, ◌≤◌, ◌<◌, ◌+◌, ◌*◌, ◌^◌, [], ℕ, IsTrue, IsSome, OnOk, IfOk};
+ghost use Rattle.std.specs.Prelude.{◌≡◌, ◌⊎◌, ◌↔◌, ◌≤◌, ◌<◌, ◌+◌, ◌*◌, ◌^◌, [], ℕ, IsTrue, IsOk, IsSome, OnOk, IfOk};
 ghost use Rattle.aria_page.specs.Lsn.{IsLsn};
 ghost use Rattle.aria_host.specs.Folder.{Folder};
 ghost use Rattle.aria_host.specs.Calls.{HasDiskCause, HaveNames, Narrows};
 ghost use Rattle.aria_log.specs.Pieces.{log_files};
 ghost use Rattle.aria_log.specs.Log.{AreAtRest, HasNoLog, IsOpened};
-ghost use Rattle.aria_log.specs.Finding.{Fails, HasFindCause, IsLast, OpenAnswers, means_none};
+ghost use Rattle.aria_log.specs.Finding.{Answers, Fails, HasFindCause, IsDamage, IsLast, IsWhole, Opens, TellsMissing, means_none};
 
 use crate::find::Found;
 use crate::log::Log;
@@ -48,6 +48,24 @@ fn settle<H: Host>(host: &mut H, low: u32, last: u32) -> Result<(), Fault>
     }
 }
 
+// Opens the log from this log sequence number on.
+fn open_in<H: Host>(alloc: Global, host: &mut H, from: Lsn) -> Result<Log, Fault>
+    requires { IsLsn from }
+    ensures opened { IsTrue H.tells → Fails result ⊎ Answers from (log_files (H.state host.old).folder) (Opens from (H.state host.new)) (IsDamage from (log_files (H.state host.old).folder)) result }
+    ensures same { IsTrue H.tells → Narrows (H.state host.old) (H.state host.new) }
+    ensures cause { HasFindCause (H.state host.old) (H.state host.new) result }
+{
+    let Found { log, damage } = Log::find(alloc, host, from)?;
+    if let Some(damage) = damage {
+        return Err(Fault::LogDamaged {
+            file: damage.file,
+            page: damage.page,
+        });
+    }
+    settle(host, start_of(from).file, log.last)?;
+    Ok(log)
+}
+
 impl Log {
     /// Opens the log from this log sequence number on; file 0 with offset 0 stands for the log's first byte. The log is to
     /// be started before anything is appended. No file is changed, and those that are read are on the disk.
@@ -57,20 +75,14 @@ impl Log {
     pub fn open<H: Host>(alloc: Global, host: &mut H, from: Lsn) -> Result<Log, Fault>
         requires { IsLsn from }
         // Unless the disk or memory fails it answers what the folder's files say, and nothing else.
-        ensures opened { IsTrue H.tells → Fails result ⊎ OpenAnswers from (H.state host.old) (H.state host.new) result }
+        ensures opened { IsTrue H.tells → Fails result ⊎ Answers from (log_files (H.state host.old).folder) (Opens from (H.state host.new)) (IsDamage from (log_files (H.state host.old).folder)) result }
+        ensures missing { IsTrue H.tells → Fails result ⊎ TellsMissing from (log_files (H.state host.old).folder) result }
+        ensures whole { IsTrue H.tells → Fails result ⊎ (IsOk result ↔ IsWhole from (log_files (H.state host.old).folder)) }
         // Of a folder without a log file it is the log that `fresh` gives.
         ensures fresh { IsTrue H.tells → IsTrue (means_none from) → HasNoLog (H.state host.old) → IfOk result (λ log. IsOpened log (H.state host.new) (8176 * 1024) [] log.last) }
         ensures same { IsTrue H.tells → Narrows (H.state host.old) (H.state host.new) }
         ensures cause { HasFindCause (H.state host.old) (H.state host.new) result }
     {
-        let Found { log, damage } = Log::find(alloc, host, from)?;
-        if let Some(damage) = damage {
-            return Err(Fault::LogDamaged {
-                file: damage.file,
-                page: damage.page,
-            });
-        }
-        settle(host, start_of(from).file, log.last)?;
-        Ok(log)
+        open_in(alloc, host, from)
     }
 }

@@ -9,6 +9,7 @@ ghost use Rattle.aria_log.specs.Spelling.{IsSpelled};
 mod boundary;
 mod crashes;
 mod faults;
+mod finding;
 mod purging;
 mod rooms;
 mod walking;

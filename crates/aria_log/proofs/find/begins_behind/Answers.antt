@@ -1,6 +1,5 @@
-use Rattle.std.proofs.Common.{◌+◌, ◌-◌, ◌*◌, ◌^◌, arith}
+use Rattle.std.proofs.Common.{arith}
 use Rattle.aria_log.specs.Pieces.{log_files}
-use Rattle.aria_log.proofs.Counting.{stops_at}
 use Rattle.aria_log.proofs.Damages.{none_behind, none_begins}
 use Rattle.aria_log.proofs.find.begins_behind.Goals as goal
 
@@ -8,6 +7,6 @@ pub returns-clause-begins : goal.returns-clause-begins
 returns-clause-begins g c = λ told.
     let files = log_files (g.H.Host.state c.args.host.now).folder in (
       λ never. absurd (cc),
-      λ behind. absurd (none_begins files c.args.end c.loop-number.number (c.loop-number.invariant.quiet told)
-          (λ n over. none_behind files c.args.last n (c.requires.none told) (stops_at (1024 * (c.args.last + 1)) (2 ^ 34 - 1) n (omega (arith, over, c.loop-number-test.false, c.end_of-number-end.ensures)))) behind),
+      λ behind. absurd (none_begins files c.args.from c.loop-number.number (c.loop-number.invariant.quiet told)
+          (λ n over. none_behind files c.args.last n (c.requires.none told) (omega (arith, over, c.loop-number-test.false, c.end_of-number-end.ensures))) behind),
     )

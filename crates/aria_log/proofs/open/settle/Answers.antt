@@ -1,9 +1,8 @@
-use Rattle.std.proofs.Common.{◌≡◌, ◌∙◌, ◌<◌, ◌≤◌, ◌^◌, ℕ, inl, inr, ap, sym, subst, is_ok, arith, None}
+use Rattle.std.proofs.Common.{◌≡◌, ◌∙◌, inl, inr, ap, sym, subst, None}
 use Rattle.std.specs.Prelude.{IsSome}
 use Rattle.std.proofs.lemmas.Bool.{cases_lt}
 use Rattle.aria_host.specs.declared.file_name.FileName.TheVariants.{Log}
 use Rattle.aria_host.specs.Folder.{Folder}
-use Rattle.aria_host.specs.Calls.{extent_of}
 use Rattle.aria_host.proofs.Answered.{on_ok, on_ok_of}
 use Rattle.aria_log.specs.Pieces.{log_files}
 use Rattle.aria_log.proofs.Cutting.{found_none, found_some}

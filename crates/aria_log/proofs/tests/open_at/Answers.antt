@@ -5,5 +5,5 @@ pub returns : goal.returns
 returns c =
     elim (c.in_ok-log.ensures.opened refl) [
       | inl fails ↦ absurd fails
-      | inr answers ↦ let (none, base, base_is, groups, opened) = answers in (base, groups, opened)
+      | inr answers ↦ let is = answers.1 in (is.base, is.groups, is.opened)
     ]

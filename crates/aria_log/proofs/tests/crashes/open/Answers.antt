@@ -9,9 +9,9 @@ count_groups-requires c =
     elim (c.in_ok-log.ensures.opened refl) [
       | inl fails ↦ absurd fails
       | inr answers ↦
-          let (none, base, base_is, groups, opened) = answers in
-          let (entries, stands, all, start) = opened_reads c.first_byte-from.result c.in_ok-log.log (mem_state c.open.new.host) base groups c.in_ok-log.log.last base_is opened in
-          (base, [], entries, stands, sym (start_given c.first_byte-from.result c.first_byte-from.ensures.given) ∙ start)
+          let is = answers.1 in
+          let (entries, stands, all, start) = opened_reads c.first_byte-from.result c.in_ok-log.log (mem_state c.open.new.host) is.base is.groups c.in_ok-log.log.last is.base_is is.opened in
+          (is.base, [], entries, stands, sym (start_given c.first_byte-from.result c.first_byte-from.ensures.given) ∙ start)
     ]
 
 pub returns : goal.returns
@@ -19,6 +19,6 @@ returns c =
     elim (c.in_ok-log.ensures.opened refl) [
       | inl fails ↦ absurd fails
       | inr answers ↦
-          let (none, base, base_is, groups, opened) = answers in
-          (base, groups, look_opened c.in_ok-log.log (mem_state c.open.new.host) (mem_state c.count_groups.new.host) base groups c.in_ok-log.log.last c.count_groups.ensures opened)
+          let is = answers.1 in
+          (is.base, is.groups, look_opened c.in_ok-log.log (mem_state c.open.new.host) (mem_state c.count_groups.new.host) is.base is.groups c.in_ok-log.log.last c.count_groups.ensures is.opened)
     ]

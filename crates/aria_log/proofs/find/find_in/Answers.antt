@@ -8,7 +8,7 @@ use Rattle.aria_host.specs.Calls.{Lists}
 use Rattle.aria_log.specs.Pieces.{log_files}
 use Rattle.aria_log.specs.Finding.{start_of, place_of, IsLast, NoneMissing, Finds}
 use Rattle.aria_log.proofs.Founds.{answers_of, missing_cause}
-use Rattle.aria_log.proofs.log.Log.find.Goals as goal
+use Rattle.aria_log.proofs.find.find_in.Goals as goal
 
 pub returns-in_err-last-clause-cause : goal.returns-in_err-last-clause-cause
 returns-in_err-last-clause-cause g c =
@@ -43,7 +43,7 @@ returns-clause-found g c = λ told.
     let lists = subst (λ (l : List FileName). Lists folder l) (sym c.as_slice.ensures) (c.in_ok-names.ensures.names told) in
     let same = (c.in_ok-names.ensures.same told).folder in
     let missing = (c.in_ok-last.ensures.last folder lists).0 in
-    answers_of c.args.from (log_files folder) c.find_from.result c.find_from.ensures.cause.only
+    answers_of c.args.from (log_files folder) c.find_from.result missing c.find_from.ensures.cause.only
     (subst (λ (f : Folder). IfOk c.find_from.result (λ found. Finds c.args.from (log_files f) found)) same
     (c.find_from.ensures.found told c.args.from (subst (λ (f : Folder). NoneMissing c.args.from (log_files f)) (sym same) missing)
     (ap place_of (sym c.start_of-start.ensures.is) ∙ sym c.place_of.ensures.is ∙ c.in-Some.is)))
