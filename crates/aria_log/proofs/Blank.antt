@@ -18,7 +18,7 @@ use Rattle.aria_log.specs.Pieces.{LogFiles, log_files, pieces_of}
 use Rattle.aria_log.specs.Groups.{Logged}
 use Rattle.aria_log.specs.Log.{IsThere, IsOpened, EndsAt, IsBlankFrom, EndsFile, IsEnded, KeepsRoom}
 use Rattle.aria_log.proofs.Counting.{below_or_same}
-use Rattle.aria_log.proofs.Cutting.{look_opened}
+use Rattle.aria_log.proofs.Staying.{look_opened}
 use Rattle.aria_log.proofs.LogPages.{zero_reads}
 
 -- a page that was read is the one that stands there

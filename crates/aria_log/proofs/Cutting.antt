@@ -169,16 +169,7 @@ cut_synced log old mid new done base groups file only cutting syncs = (
       (λ c leaves. (cutting.now c (syncs.no_more c leaves), c, syncs.no_more c leaves, λ g other. refl))),
 )
 
--- a look changes nothing of an opened log
-pub look_opened : (log : LogValue) (old new : State) (base : ℕ) (groups : List Logged) (last : ℕ) → Unchanged old new → IsOpened log old base groups last → IsOpened log new base groups last
-look_opened log old new base groups last same is =
-    opened_shorter log old new base groups last last is
-    (same_shorter (log_files old.folder) (log_files new.folder) base (length is.whole) (low_base base is.whole is.low) (λ f from low. ap (λ (x : Folder). x (Log f)) same.folder) is.sound)
-    (λ c leaves f from low. is.rest c (same.images.no_more c leaves) f from low ∙ ap (λ (x : Folder). x (Log f)) (sym same.folder))
-    (λ over. subst (λ (x : Folder). IsSome (x (Log last))) (sym same.folder) (is.last_is over))
-    (λ f over past low. ap (λ (x : Folder). x (Log f)) same.folder ∙ is.none f over past low)
-
--- and leaves the log in each image
+-- a look leaves an opened log in each image
 pub look_keeps : (log : LogValue) (old new : State) (base : ℕ) (groups : List Logged) (last : ℕ) → OnlyNow old → Unchanged old new → IsOpened log old base groups last → LogMoments old new (HoldsAll base groups)
 look_keeps log old new base groups last only same is =
     one_call old new (HoldsAll base groups) only same.tells (λ g other. ap (λ (x : Folder). x g) same.folder) (rest_holds log old base groups last is)

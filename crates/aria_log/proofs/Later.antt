@@ -40,14 +40,14 @@ number_rest n bytes x e =
     (ltb-false _ _ g.0, ap (λ (y : ℕ × List ℕ). y.1) (sym (same_Some (number_of n bytes, drop n bytes) x g.1)))
 
 -- these are the bytes behind some others, of which there is one at least
-record IsBehind (bytes rest : List ℕ) : Type 0 where
-  count : ℕ
-  some : 1 ≤ count
-  within : count ≤ length bytes
-  rest_is : rest ≡ drop count bytes
+pub record IsBehind (bytes rest : List ℕ) : Type 0 where
+  pub count : ℕ
+  pub some : 1 ≤ count
+  pub within : count ≤ length bytes
+  pub rest_is : rest ≡ drop count bytes
 
 -- a group that is read leaves the bytes behind it
-group_rest : (bytes : List ℕ) (x : List Record × List ℕ) → read_group bytes ≡ Some x → IsBehind bytes x.1
+pub group_rest : (bytes : List ℕ) (x : List Record × List ℕ) → read_group bytes ≡ Some x → IsBehind bytes x.1
 unfolding read_group counted_at
 group_rest bytes x e =
     let content = bind_some (counted_at 4 bytes) (λ content. read_content content.0 >>= (λ group. Some (group, content.1))) x e in
@@ -65,7 +65,7 @@ group_rest bytes x e =
     }
 
 -- the length of what stands behind
-behind_length : (bytes rest : List ℕ) (is : IsBehind bytes rest) → length rest + is.count ≡ length bytes
+pub behind_length : (bytes rest : List ℕ) (is : IsBehind bytes rest) → length rest + is.count ≡ length bytes
 behind_length bytes rest is = omega (arith, ap (λ (l : List ℕ). length l) is.rest_is, length-drop is.count bytes, is.within)
 
 -- as many steps as there are bytes find all groups
@@ -144,10 +144,10 @@ from_group (suc i) place bytes g rest is = from_next i place bytes g rest (λ p 
 -- ---- the pieces of runs
 
 -- no page holds more bytes than its body has
-abbrev AreShort : Pieces → Type 0
+abbrev pub AreShort : Pieces → Type 0
 AreShort pieces = (n : ℕ) (piece : Piece) → pieces n ≡ Some piece → length piece.1 ≤ 8176
 
-are_short : (files : LogFiles) → AreShort (pieces_of files)
+pub are_short : (files : LogFiles) → AreShort (pieces_of files)
 unfolding pieces_of
 are_short files n (begins, bytes) is = (read_is_valid n begins bytes _ is).fits
 
@@ -422,7 +422,7 @@ later_keeps old new base i forced groups g rest keeps is low =
     more_at_log old new (HoldsFrom base groups forced) (HoldsFrom g.at (g ∷ rest) (forced - i)) keeps (λ files held. later_from files base i forced groups g rest held is low)
 
 -- the files stand from a later file on
-later_files : (files : LogFiles) (low low' n : ℕ) → low ≤ low' → FilesStand files low n → FilesStand files low' n
+pub later_files : (files : LogFiles) (low low' n : ℕ) → low ≤ low' → FilesStand files low n → FilesStand files low' n
 later_files files low low' n from stands = record {
   here = stands.here;
   stand = λ f above. stands.stand f (omega (arith, above, from));

@@ -1,4 +1,5 @@
 pub mod Counting
+pub mod Staying
 pub mod LogPages
 pub mod Sealing
 pub mod Filled
@@ -18,6 +19,8 @@ pub mod Blank
 pub mod Testing
 pub mod Zeros
 pub mod Later
+pub mod Holding
+pub mod Places
 pub mod Bases
 pub mod Purging
 pub mod Purged

@@ -28,7 +28,7 @@ joined_size (bytes ∷ parts) full =
     omega (arith, length-append bytes (joined parts), All-head (λ (b : List ℕ). length b ≡ 8176) bytes parts full, joined_size parts (All-tail (λ (b : List ℕ). length b ≡ 8176) bytes parts full))
 
 -- the next byte is put behind the bytes that were appended
-place_is : (log : LogValue) (s : State) (base : ℕ) (whole : List Piece) (text : List ℕ) → IsAt log s base whole text → place log ≡ 8176 * (base / 8176 + length whole) + length text
+pub place_is : (log : LogValue) (s : State) (base : ℕ) (whole : List Piece) (text : List ℕ) → IsAt log s base whole text → place log ≡ 8176 * (base / 8176 + length whole) + length text
 place_is log s base whole text is =
     omega (arith, is.fills.number_is, is.fills.used_is, joined_size is.parts is.full, ap length is.text_is, length-append (joined is.parts) is.held)
 

@@ -39,6 +39,7 @@ impl Log {
         ensures moments { IsTrue H.tells → (base : ℕ) (groups : List Logged) (forced : ℕ) → IsLog self.old (H.state host.old) base groups forced
             → LogKeeps (H.state host.old) (H.state host.new) base groups forced }
         ensures lsn { IfOk result (λ lsn. lsn ≡ lsn_at_place (place self.old)) }
+        ensures low { place self.old ≤ 8176 * (2 ^ 34 - 1) }
         ensures place { OnOk result (place self.new ≡ place self.old + length group.now) }
         ensures cause { HasAppendCause (place self.old + length group.now) self.old self.new host.old host.new (H.state host.old) (H.state host.new) result }
     {
@@ -118,7 +119,8 @@ impl Log {
 
     /// The place behind the log's last group: where the next one begins.
     pub fn end(&self) -> Lsn
-        ensures { result ≡ lsn_at_place (place self.now) }
+        ensures is { result ≡ lsn_at_place (place self.now) }
+        ensures low { place self.now ≤ 8176 * (2 ^ 34 - 1) }
     {
         lsn_of_place(self.place())
     }

@@ -5,7 +5,7 @@ ghost use Rattle.aria_page.specs.Lsn.{IsLsn};
 ghost use Rattle.aria_host.specs.MemHost.{mem_state};
 ghost use Rattle.aria_log.specs.Log.{IsRunning};
 
-use super::{commit, commit_all};
+use super::{commit, commit_all, is_blank};
 use crate::Log;
 use crate::log_page::{BODY_BYTES, FILE_PAGES, seal};
 use aria_host::{Fault, FileName, MemHost};
@@ -209,7 +209,7 @@ fn a_log_goes_on_where_it_was_forced(rt: HostRuntime) -> Result<(), Fail> {
     log.append(&mut host, group.as_slice())?;
     let mut log = begin_again(alloc, &mut host)?;
     assert!(rt; log.end() == end);
-    assert!(rt; host.page(&FileName::Log(1), 1).is_none());
+    assert!(rt; is_blank(&host, 1));
     commit_all(alloc, &mut log, &mut host, 1)?;
     let log = begin_again(alloc, &mut host)?;
     assert_eq!(rt; log.end().offset, 0x4010);

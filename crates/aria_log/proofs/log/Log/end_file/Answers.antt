@@ -4,7 +4,8 @@ use Rattle.aria_host.specs.Folder.{Folder}
 use Rattle.aria_host.specs.Calls.{extent_of}
 use Rattle.aria_log.specs.Log.{HoldsAll}
 use Rattle.aria_log.proofs.Writing.{one_after}
-use Rattle.aria_log.proofs.Cutting.{look_opened, look_keeps, found_none}
+use Rattle.aria_log.proofs.Staying.{look_opened}
+use Rattle.aria_log.proofs.Cutting.{look_keeps, found_none}
 use Rattle.aria_log.proofs.Blank.{none_end, looked_end}
 use Rattle.aria_log.proofs.log.Log.end_file.Goals as goal
 

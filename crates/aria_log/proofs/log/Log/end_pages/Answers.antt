@@ -3,7 +3,8 @@ use Rattle.aria_host.specs.Folder.{Folder}
 use Rattle.aria_log.specs.Pieces.{log_files}
 use Rattle.aria_log.specs.Log.{HoldsAll}
 use Rattle.aria_log.proofs.Writing.{one_after}
-use Rattle.aria_log.proofs.Cutting.{look_opened, look_keeps}
+use Rattle.aria_log.proofs.Staying.{look_opened}
+use Rattle.aria_log.proofs.Cutting.{look_keeps}
 use Rattle.aria_log.proofs.Blank.{isnt_blank, cut_there, kept_end, cut_end}
 use Rattle.aria_log.proofs.log.Log.end_pages.Goals as goal
 

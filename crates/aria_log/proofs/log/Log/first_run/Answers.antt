@@ -5,7 +5,7 @@ use Rattle.aria_log.specs.Groups.{lsn_at_place}
 use Rattle.aria_log.specs.Log.{place}
 use Rattle.aria_log.specs.Reading.{seen, entries_of_runs}
 use Rattle.aria_log.specs.Stepping.{shown, RunsFrom}
-use Rattle.aria_log.proofs.Unchanged.{unchanged_now, unchanged_after}
+use Rattle.aria_host.proofs.Moments.{unchanged_now, unchanged_after}
 use Rattle.aria_log.proofs.Looking.{reader_at}
 use Rattle.aria_log.proofs.FirstRun.{runs_start, runs_page, run_found, run_passed, run_none}
 use Rattle.aria_log.proofs.log.Log.first_run.Goals as goal
@@ -62,5 +62,5 @@ pub returns-clause-run : goal.returns-clause-run
 returns-clause-run g c = λ told n front is from. (
   place c.args.self.now,
   run_none c.args.self.now (log_files (g.H.Host.state c.args.host.now).folder) (entries_of_runs n front) c.loop-number.number (c.loop-number.invariant.runs told n front is from) (omega (arith, c.loop-number-test.false, c.place.ensures)),
-  c.end.ensures,
+  c.end.ensures.is,
 )

@@ -1,7 +1,7 @@
 use Rattle.std.proofs.Common.{◌∙◌, inl, inr, [], refl, sym}
 use Rattle.aria_host.specs.MemHost.{mem_state}
 use Rattle.aria_log.proofs.Bases.{opened_reads, start_given}
-use Rattle.aria_log.proofs.Cutting.{look_opened}
+use Rattle.aria_log.proofs.Staying.{look_opened}
 use Rattle.aria_log.proofs.tests.crashes.open.Goals as goal
 
 pub count_groups-requires : goal.count_groups-requires
