@@ -5,10 +5,11 @@ use Rattle.std.proofs.lemmas.List.{append-nil, drop-take, take-append-drop, take
 use Rattle.std.proofs.lemmas.List.Elements.{All-push}
 use Rattle.aria_host.specs.Folder.{Folder}
 use Rattle.aria_host.specs.State.{State}
+use Rattle.aria_host.proofs.Moments.{OnlyNow, nothing_moves, one_after, implied}
 use Rattle.aria_log.specs.declared.log.Log.{Log as LogValue}
 use Rattle.aria_log.specs.Pieces.{Piece, LogFiles, log_files}
 use Rattle.aria_log.specs.Log.{LogMoments, joined, behind, HoldsRun, IsImage, IsStrict, IsWriting, Fills, IsAt, Wrote, Makes, Adds}
-use Rattle.aria_log.proofs.Writing.{OnlyNow, one_after, more_at_log, nothing_moves, full_are, joined_push, behind_push, run_is_image}
+use Rattle.aria_log.proofs.Writing.{full_are, joined_push, behind_push, run_is_image}
 
 -- what a crash now leaves of the log's files
 pub image_now : (log : LogValue) (s : State) (base : ℕ) (whole : List Piece) (text : List ℕ) → IsAt log s base whole text → (c : Folder) → s.may_leave c → IsImage base whole text (log_files c)
@@ -16,13 +17,13 @@ image_now log s base whole text is c leaves = run_is_image base whole is.parts i
 
 -- nothing was appended
 pub adds_nothing : (log : LogValue) (s : State) (base : ℕ) (whole : List Piece) (text : List ℕ) → OnlyNow s → IsAt log s base whole text → Adds log s s base whole text true
-adds_nothing log s base whole text only is = record { at = λ done. is; keeps = nothing_moves s (IsImage base whole text) only (image_now log s base whole text is) }
+adds_nothing log s base whole text only is = record { at = λ done. is; keeps = nothing_moves s only (image_now log s base whole text is) }
 
 -- the file was made, or that failed, while these bytes are ahead
 pub makes_keep : (old new : State) (base : ℕ) (whole : List Piece) (parts : List (List ℕ)) (held : List ℕ) (done : Bool) → All (λ (bytes : List ℕ). length bytes ≡ 8176) parts → Makes old new base whole parts done
     → LogMoments old new (IsImage base whole (joined parts ++ held))
 makes_keep old new base whole parts held done full makes =
-    more_at_log old new (HoldsRun base whole parts) (IsImage base whole (joined parts ++ held)) makes.keeps (λ files run. run_is_image base whole parts held (joined parts ++ held) files run (full_are parts full) refl)
+    implied old new makes.keeps (λ c run. run_is_image base whole parts held (joined parts ++ held) (log_files c) run (full_are parts full) refl)
 
 -- the page was written once its file was made
 pub wrote_after : (log : LogValue) (a b c : State) (base : ℕ) (whole : List Piece) (parts : List (List ℕ)) (held : List ℕ) (done : Bool) → All (λ (bytes : List ℕ). length bytes ≡ 8176) parts → Makes a b base whole parts true
@@ -30,7 +31,7 @@ pub wrote_after : (log : LogValue) (a b c : State) (base : ℕ) (whole : List Pi
 wrote_after log a b c base whole parts held done full makes wrote = record {
   writing = wrote.writing;
   fills = wrote.fills;
-  keeps = one_after a b c (IsImage base whole (joined parts ++ held)) (makes_keep a b base whole parts held true full makes) wrote.keeps;
+  keeps = one_after a b c (makes_keep a b base whole parts held true full makes) wrote.keeps;
 }
 
 -- what isn't done isn't done
@@ -98,15 +99,15 @@ next_at log s base whole text bytes rest at count e is =
 pub next_moments : (a b c : State) (base : ℕ) (whole : List Piece) (text bytes : List ℕ) (at : ℕ) → at < length bytes → LogMoments a b (IsStrict base whole (text ++ bytes)) → LogMoments b c (IsImage base whole (text ++ take at bytes))
     → LogMoments a c (IsStrict base whole (text ++ bytes))
 next_moments a b c base whole text bytes at below first second =
-    one_after a b c (IsStrict base whole (text ++ bytes)) first
-    (more_at_log b c (IsImage base whole (text ++ take at bytes)) (IsStrict base whole (text ++ bytes)) second
-    (λ files image. image_strict base whole (text ++ take at bytes) (drop at bytes) (text ++ bytes) files (omega (arith, below, length-drop at bytes))
+    one_after a b c first
+    (implied b c second
+    (λ f image. image_strict base whole (text ++ take at bytes) (drop at bytes) (text ++ bytes) (log_files f) (omega (arith, below, length-drop at bytes))
     (append_assoc text (take at bytes) (drop at bytes) ∙ ap (λ (l : List ℕ). text ++ l) (take-append-drop at bytes)) image))
 
 -- before the first step
 pub first_moments : (log : LogValue) (s : State) (base : ℕ) (whole : List Piece) (text bytes : List ℕ) → OnlyNow s → 1 ≤ length bytes → IsAt log s base whole text → LogMoments s s (IsStrict base whole (text ++ bytes))
 first_moments log s base whole text bytes only some is =
-    nothing_moves s (IsStrict base whole (text ++ bytes)) only (λ c leaves. image_strict base whole text bytes (text ++ bytes) (log_files c) some refl (image_now log s base whole text is c leaves))
+    nothing_moves s only (λ c leaves. image_strict base whole text bytes (text ++ bytes) (log_files c) some refl (image_now log s base whole text is c leaves))
 
 -- all bytes were appended
 pub all_at : (log : LogValue) (s : State) (base : ℕ) (whole : List Piece) (text bytes : List ℕ) (at : ℕ) → length bytes ≤ at → IsAt log s base whole (text ++ take at bytes) → IsAt log s base whole (text ++ bytes)

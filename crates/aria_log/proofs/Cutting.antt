@@ -9,24 +9,25 @@ use Rattle.std.proofs.lemmas.Option.{same_Some}
 use Rattle.aria_page.specs.Page.{zero_page}
 use Rattle.aria_record.specs.Groups.{IsGroup}
 use Rattle.aria_host.specs.declared.file_name.FileName.TheVariants.{Log}
-use Rattle.aria_host.specs.Folder.{Folder, with_cut}
+use Rattle.aria_host.specs.Folder.{Folder, is_log, with_cut}
+use Rattle.aria_host.specs.Moments.{SameBut}
 use Rattle.aria_host.specs.State.{State}
 use Rattle.aria_host.specs.declared.host.Extent.{Extent}
 use Rattle.aria_host.specs.Calls.{Cuts, Removes, Syncs, Unchanged, extent_of}
 use Rattle.aria_host.specs.Seen.{page_or_zero}
 use Rattle.aria_host.proofs.Files.{with_file-same, with_file-other}
+use Rattle.aria_host.proofs.Moments.{OnlyNow, nothing_moves, one_call, one_look, one_after, looks, sync_narrows}
 use Rattle.aria_log.specs.declared.log.Log.{Log as LogValue}
 use Rattle.aria_log.specs.LogPage.{log_body, read_log_page}
 use Rattle.aria_log.specs.Pieces.{Piece, Pieces, LogFiles, log_files, pieces_of, Stand, is_full}
 use Rattle.aria_log.specs.Groups.{Logged, groups_from}
 use Rattle.aria_log.specs.Files.{IsSoundLog}
-use Rattle.aria_log.specs.Log.{SameOthers, LogMoments, file_of, behind, FilesStand, HoldsRun, IsThere, IsLog, AreAtRest, IsOpened, HoldsAll, Starts, EndsAt, HasNoLog, Cutting}
+use Rattle.aria_log.specs.Log.{LogMoments, file_of, behind, FilesStand, HoldsRun, IsThere, IsLog, AreAtRest, IsOpened, HoldsAll, Starts, EndsAt, HasNoLog, Cutting}
 use Rattle.aria_log.proofs.LogPages.{zero_reads}
 use Rattle.aria_log.proofs.Counting.{differ_above, below_or_same, above_unless_same, not_first}
 use Rattle.aria_log.proofs.Fronts.{next_none}
 use Rattle.aria_log.proofs.PutPages.{others_stay, there_is, none_isnt}
 use Rattle.aria_log.proofs.Images.{next_some, no_bytes}
-use Rattle.aria_log.proofs.Writing.{OnlyNow, one_call, one_after, nothing_moves}
 use Rattle.aria_log.proofs.Starting.{none_reads, other_reads, high_piece, Shorter, shorter_front, shorter_sound, shorter_holds, shorter_again, same_shorter, low_base, rest_shorter, rest_holds, opened_shorter, remove_step}
 
 -- a page of a file that was cut
@@ -106,7 +107,7 @@ cut_step log old new done base groups end pages only is number there cuts =
     let sound = subst (λ (k : ℕ). IsSoundLog (log_files d) base k) at (shorter_sound (log_files old.folder) (log_files d) base is.whole here is.based front.stand is.sound) in
     let (more, now, other) = cut_shorter end base d c pages (omega (arith, at)) e (same (end / 1024) (omega (arith, at)) (omega (arith, at, is.low)) ∙ there) sound in
     (shorter_again (log_files old.folder) (log_files d) (log_files c) (base / 8176) (base / 8176 + length is.whole) here (subst (λ (k : ℕ). Shorter (log_files d) (log_files c) (base / 8176) k) (sym at) more), now, other) in
-    let after : (c : Folder) → new.may_leave c → HoldsAll base groups (log_files c) × IsSome (c (Log (end / 1024))) × ((f : ℕ) → file_of base ≤ f → f < 2 ^ 24 → (end / 1024 == f) ≡ false → c (Log f) ≡ old.folder (Log f)) × (d : Folder) × old.may_leave d × SameOthers d c =
+    let after : (c : Folder) → new.may_leave c → HoldsAll base groups (log_files c) × IsSome (c (Log (end / 1024))) × ((f : ℕ) → file_of base ≤ f → f < 2 ^ 24 → (end / 1024 == f) ≡ false → c (Log f) ≡ old.folder (Log f)) × (d : Folder) × old.may_leave d × SameBut is_log d c =
     λ c leaves.
     let (d, was, step) = cuts.images c leaves in
     elim step [
@@ -124,11 +125,11 @@ cut_step log old new done base groups end pages only is number there cuts =
         λ f from low' apart. other f apart ∙ is.rest d was f from low',
         d,
         was,
-        others_stay (end / 1024) (option_map (take (end % 1024)) (d (Log (end / 1024)))) d c cut,
+        others_stay (end / 1024) (option_map (take (end % 1024)) (d (Log (end / 1024)))) d c (inr cut),
       )
     ] in
     record {
-      keeps = one_call old new (HoldsAll base groups) only cuts.tells (cut_stays cuts.either) (rest_holds log old base groups (end / 1024) is)
+      keeps = one_call old new only cuts.tells (others_stay (end / 1024) _ old.folder new.folder cuts.either) (rest_holds log old base groups (end / 1024) is)
           (λ c leaves. let (holds, some, same, d, was, others) = after c leaves in (holds, d, was, others));
       now = λ c leaves. let (holds, some, same, d, was, others) = after c leaves in holds;
       some = λ c leaves. let (holds, some, same, d, was, others) = after c leaves in some;
@@ -141,10 +142,6 @@ cut_step log old new done base groups end pages only is number there cuts =
   where
     above : (f : ℕ) → end / 1024 < f → (end / 1024 == f) ≡ false
     above f past = differ_above (end / 1024) f past
-
-    cut_stays : (new.folder ≡ old.folder) ⊎ (new.folder ≡ with_cut (Log (end / 1024)) (end % 1024) old.folder) → SameOthers old.folder new.folder
-    cut_stays (inl same) g other = ap (λ (x : Folder). x g) same
-    cut_stays (inr made) g other = others_stay (end / 1024) (option_map (take (end % 1024)) (old.folder (Log (end / 1024)))) old.folder new.folder made g other
 
     folder_same : (new.folder ≡ old.folder) ⊎ (new.folder ≡ with_cut (Log (end / 1024)) (end % 1024) old.folder) → (f : ℕ) → (end / 1024 == f) ≡ false → new.folder (Log f) ≡ old.folder (Log f)
     folder_same (inl same) f apart = ap (λ (x : Folder). x (Log f)) same
@@ -164,16 +161,12 @@ cut_synced log old mid new done base groups file only cutting syncs = (
             ap (λ (g : ℕ). c (Log g)) (sym e) ∙ here ∙ ap (λ (g : ℕ). mid.folder (Log g)) e ∙ ap (λ (x : Folder). x (Log f)) (sym syncs.folder)
       ] in
       cutting.opened refl new syncs.folder rest,
-  one_after old mid new (HoldsAll base groups) cutting.keeps
-      (one_call mid new (HoldsAll base groups) only syncs.tells (λ g other. ap (λ (x : Folder). x g) syncs.folder) cutting.now
-      (λ c leaves. (cutting.now c (syncs.no_more c leaves), c, syncs.no_more c leaves, λ g other. refl))),
+  one_after old mid new cutting.keeps (one_look mid new only (sync_narrows mid new syncs) cutting.now),
 )
 
 -- a look leaves an opened log in each image
 pub look_keeps : (log : LogValue) (old new : State) (base : ℕ) (groups : List Logged) (last : ℕ) → OnlyNow old → Unchanged old new → IsOpened log old base groups last → LogMoments old new (HoldsAll base groups)
-look_keeps log old new base groups last only same is =
-    one_call old new (HoldsAll base groups) only same.tells (λ g other. ap (λ (x : Folder). x g) same.folder) (rest_holds log old base groups last is)
-    (λ c leaves. (rest_holds log old base groups last is c (same.images.no_more c leaves), c, same.images.no_more c leaves, λ g other. refl))
+look_keeps log old new base groups last only same is = one_look old new only (looks old new same) (rest_holds log old base groups last is)
 
 -- ---- a started log
 
@@ -366,14 +359,14 @@ opened_lower log s base groups last is upto =
 
 -- nothing is done yet
 pub starts_none : (log : LogValue) (s : State) (base : ℕ) (groups : List Logged) (last : ℕ) → OnlyNow s → IsOpened log s base groups last → Starts log s s base groups last true
-starts_none log s base groups last only is = record { opened = λ done. is; same = λ done f upto. refl; keeps = nothing_moves s (HoldsAll base groups) only (rest_holds log s base groups last is) }
+starts_none log s base groups last only is = record { opened = λ done. is; same = λ done f upto. refl; keeps = nothing_moves s only (rest_holds log s base groups last is) }
 
 -- a step more
 pub starts_more : (log : LogValue) (a b c : State) (base : ℕ) (groups : List Logged) (last next : ℕ) (done : Bool) → Starts log a b base groups last true → Starts log b c base groups next done → Starts log a c base groups next done
 starts_more log a b c base groups last next done first second = record {
   opened = second.opened;
   same = λ finished f upto. second.same finished f upto ∙ first.same refl f upto;
-  keeps = one_after a b c (HoldsAll base groups) first.keeps second.keeps;
+  keeps = one_after a b c first.keeps second.keeps;
 }
 
 -- the last file is there

@@ -6,6 +6,7 @@ use Rattle.std.proofs.lemmas.Bool.{cases_lt, eqb-true, ltb-false}
 use Rattle.std.proofs.lemmas.List.{length-drop, drop-drop, drop-take, drop_all, drop-append-le}
 use Rattle.std.proofs.lemmas.Option.{same_Some}
 use Rattle.aria_host.specs.State.{State}
+use Rattle.aria_host.proofs.Moments.{implied}
 use Rattle.aria_page.specs.Field.{◌>>=◌}
 use Rattle.aria_page.specs.Number.{number_of, number_at}
 use Rattle.aria_page.specs.Text.{bytes_at, counted_at}
@@ -21,7 +22,6 @@ use Rattle.aria_log.proofs.LogPages.{read_is_valid}
 use Rattle.aria_log.proofs.GroupLists.{none_within, some_within, none_in_none}
 use Rattle.aria_log.proofs.Fronts.{next_of}
 use Rattle.aria_log.proofs.Images.{next_some}
-use Rattle.aria_log.proofs.Writing.{more_at_log}
 use Rattle.aria_log.proofs.Cutting.{piece_there}
 
 -- ---- groups in bytes
@@ -419,7 +419,7 @@ later_from files base i forced groups g rest held is low =
 -- and so at each moment
 pub later_keeps : (old new : State) (base i forced : ℕ) (groups : List Logged) (g : Logged) (rest : List Logged) → LogKeeps old new base groups forced → drop i groups ≡ g ∷ rest → i < forced → LogKeeps old new g.at (g ∷ rest) (forced - i)
 later_keeps old new base i forced groups g rest keeps is low =
-    more_at_log old new (HoldsFrom base groups forced) (HoldsFrom g.at (g ∷ rest) (forced - i)) keeps (λ files held. later_from files base i forced groups g rest held is low)
+    implied old new keeps (λ c held. later_from (log_files c) base i forced groups g rest held is low)
 
 -- the files stand from a later file on
 pub later_files : (files : LogFiles) (low low' n : ℕ) → low ≤ low' → FilesStand files low n → FilesStand files low' n

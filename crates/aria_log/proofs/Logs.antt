@@ -8,6 +8,7 @@ use Rattle.aria_record.specs.declared.record.Record.{Record}
 use Rattle.aria_record.specs.Groups.{IsGroup}
 use Rattle.aria_record.specs.Spelled.{group_bytes}
 use Rattle.aria_host.specs.State.{State}
+use Rattle.aria_host.proofs.Moments.{OnlyNow, nothing_moves, one_after, implied}
 use Rattle.aria_log.specs.declared.log.Log.{Log as LogValue}
 use Rattle.aria_log.specs.Pieces.{Piece, Pieces, LogFiles, log_files, pieces_of, Stand, may_behind}
 use Rattle.aria_log.specs.Groups.{Logged, placed, groups_bytes, groups_at, groups_from}
@@ -15,7 +16,7 @@ use Rattle.aria_log.specs.Files.{HoldsFrom}
 use Rattle.aria_log.specs.Log.{LogMoments, LogKeeps, HoldRun, AreFull, joined, file_of, behind, FilesStand, HoldsRun, IsImage, IsStrict, IsThere, IsAt, IsLog, IsBaseOf, place, Wrote, Synced}
 use Rattle.aria_log.proofs.GroupLists.{all_found, length-group_bytes}
 use Rattle.aria_log.proofs.Fronts.{stand-append, next_of, pieces_of_run, length-pieces_of_run, groups-append}
-use Rattle.aria_log.proofs.Writing.{OnlyNow, one_after, more_at_log, nothing_moves, full_more, joined_push, behind_push, run_is_image}
+use Rattle.aria_log.proofs.Writing.{full_more, joined_push, behind_push, run_is_image}
 use Rattle.aria_log.proofs.Appending.{image_now}
 use Rattle.aria_log.proofs.Images.{no_bytes, placed-push, bytes-push, base_even, image_from, strict_from}
 
@@ -57,9 +58,9 @@ appended log log' old new base groups forced group bytes is fits spelled at used
 pub append_keeps : (log : LogValue) (s old new : State) (base : ℕ) (groups : List Logged) (forced : ℕ) (group : List Record) (bytes : List ℕ) → (is : IsLog log s base groups forced) → IsGroup group → bytes ≡ group_bytes group
     → LogMoments old new (IsStrict base is.whole (groups_bytes is.fresh ++ bytes)) → LogKeeps old new base groups forced
 append_keeps log s old new base groups forced group bytes is fits spelled run =
-    more_at_log old new (IsStrict base is.whole (groups_bytes is.fresh ++ bytes)) (HoldsFrom base groups forced) run
-    (λ files strict. strict_from files base is.whole is.fresh group groups forced is.based is.are fits is.forced_are is.groups_are
-    (subst (λ (l : List ℕ). IsStrict base is.whole (groups_bytes is.fresh ++ l) files) spelled strict))
+    implied old new run
+    (λ c strict. strict_from (log_files c) base is.whole is.fresh group groups forced is.based is.are fits is.forced_are is.groups_are
+    (subst (λ (l : List ℕ). IsStrict base is.whole (groups_bytes is.fresh ++ l) (log_files c)) spelled strict))
 
 -- a group has bytes
 pub group_some : (group : List Record) (bytes : List ℕ) → bytes ≡ group_bytes group → 1 ≤ length bytes
@@ -70,12 +71,12 @@ group_some group bytes is = omega (arith, ap length is, length-group_bytes group
 -- what a crash leaves while the bytes of the groups are written
 pub image_keeps : (log : LogValue) (s old new : State) (base : ℕ) (groups : List Logged) (forced : ℕ) → (is : IsLog log s base groups forced) → LogMoments old new (IsImage base is.whole (groups_bytes is.fresh)) → LogKeeps old new base groups forced
 image_keeps log s old new base groups forced is run =
-    more_at_log old new (IsImage base is.whole (groups_bytes is.fresh)) (HoldsFrom base groups forced) run (λ files image. image_from files base is.whole is.fresh groups forced is.based is.are is.forced_are is.groups_are image)
+    implied old new run (λ c image. image_from (log_files c) base is.whole is.fresh groups forced is.based is.are is.forced_are is.groups_are image)
 
 -- nothing is done, and the log keeps its groups
 pub idle_keeps : (log : LogValue) (s : State) (base : ℕ) (groups : List Logged) (forced : ℕ) → OnlyNow s → IsLog log s base groups forced → LogKeeps s s base groups forced
 idle_keeps log s base groups forced only is =
-    image_keeps log s s s base groups forced is (nothing_moves s (IsImage base is.whole (groups_bytes is.fresh)) only (image_now log s base is.whole (groups_bytes is.fresh) is.at))
+    image_keeps log s s s base groups forced is (nothing_moves s only (image_now log s base is.whole (groups_bytes is.fresh) is.at))
 
 -- the bytes of no group are none, and of some groups some
 no_groups : (groups : List (List Record)) → length (groups_bytes groups) ≡ 0 → groups ≡ []
@@ -171,9 +172,9 @@ closed_keeps log log1 old mid new base groups forced done is wrote synced =
     let parts : List (List ℕ) = is.at.parts ++ is.at.held ∷ [] in
     let text : joined parts ++ [] ≡ groups_bytes is.fresh = append-nil (joined parts) ∙ joined_push is.at.parts is.at.held ∙ is.at.text_is in
     image_keeps log old old new base groups forced is
-    (one_after old mid new (IsImage base is.whole (groups_bytes is.fresh)) (subst (λ (l : List ℕ). LogMoments old mid (IsImage base is.whole l)) is.at.text_is wrote.keeps)
-    (more_at_log mid new (HoldsRun base is.whole parts) (IsImage base is.whole (groups_bytes is.fresh)) synced.keeps
-    (λ files run. run_is_image base is.whole parts [] (groups_bytes is.fresh) files run (full_more is.at.parts is.at.held is.at.full) text)))
+    (one_after old mid new (subst (λ (l : List ℕ). LogMoments old mid (IsImage base is.whole l)) is.at.text_is wrote.keeps)
+    (implied mid new synced.keeps
+    (λ c run. run_is_image base is.whole parts [] (groups_bytes is.fresh) (log_files c) run (full_more is.at.parts is.at.held is.at.full) text)))
 
 -- the last page wasn't written
 pub unwritten_keeps : (log log1 : LogValue) (old new : State) (base : ℕ) (groups : List Logged) (forced : ℕ) (done : Bool) → (is : IsLog log old base groups forced)

@@ -4,13 +4,14 @@ use Rattle.std.specs.Prelude.{IsSome}
 use Rattle.std.specs.Option.{option_map_or}
 use Rattle.std.proofs.lemmas.Bool.{cases_lt}
 use Rattle.aria_host.specs.declared.file_name.FileName.TheVariants.{Control, Log, Keys, Rows, NewKeys, NewRows}
-use Rattle.aria_host.specs.Folder.{Folder}
+use Rattle.aria_host.specs.Folder.{Folder, is_log}
+use Rattle.aria_host.specs.Moments.{SameBut, Left}
 use Rattle.aria_host.specs.State.{State}
 use Rattle.aria_host.proofs.Moments.{weakened}
 use Rattle.aria_log.specs.declared.log.Log.{Log as LogValue}
 use Rattle.aria_log.specs.Pieces.{Piece, Pieces, LogFiles, log_files, pieces_of}
 use Rattle.aria_log.specs.Groups.{Logged, groups_bytes}
-use Rattle.aria_log.specs.Log.{SameOthers, AtLog, LogKeeps, HoldPart, file_of, behind, FilesStand, HoldsRun, IsImage, IsThere, IsLog}
+use Rattle.aria_log.specs.Log.{LogKeeps, HoldPart, file_of, behind, FilesStand, HoldsRun, IsImage, IsThere, IsLog}
 use Rattle.aria_log.specs.Purge.{IsWithout, IsPurged, AtPurge, Purges}
 use Rattle.aria_log.proofs.Fronts.{stand_same}
 use Rattle.aria_log.proofs.Writing.{full_are, run_is_image}
@@ -104,7 +105,7 @@ purged_log log old new base groups forced below done low before purges is =
     }
 
 -- files of other kinds stay
-without_others : (low : ℕ) (d c : Folder) → IsWithout low d c → SameOthers d c
+without_others : (low : ℕ) (d c : Folder) → IsWithout low d c → SameBut is_log d c
 without_others low d c is Control other = is Control tt
 without_others low d c is (Log n) other = absurd (cc)
 without_others low d c is (Keys name) other = is (Keys name) tt
@@ -123,8 +124,8 @@ purged_keeps log old new base groups forced below done low before purges is =
     run_is_image base is.whole at.parts at.held text (log_files c)
     (alike_run (log_files p.image) (log_files c) base is.whole at.parts (without_alike p.low base p.image c p.without (omega (arith, p.upto, before))) inside (at.writing.images p.image p.left)) (full_are at.parts at.full) at.text_is in
     image_keeps log old old new base groups forced is (record {
-      moments = weakened old new (AtPurge below old) (AtLog old (IsImage base is.whole text)) purges.moments
-          (λ c told p. record { log = image c p.0; others = (p.0.image, p.0.left, without_others p.0.low p.0.image c p.0.without); told_is = p.1 });
+      moments = weakened old new (AtPurge below old) (Left is_log old (λ c. IsImage base is.whole text (log_files c))) purges.moments
+          (λ c told p. record { has = image c p.0; others = (p.0.image, p.0.left, without_others p.0.low p.0.image c p.0.without); told_is = p.1 });
       others = record {
         folder = without_others purges.part.0 old.folder new.folder purges.part.2;
         images = λ c leaves. let p = purges.images c leaves in (p.image, p.left, without_others p.low p.image c p.without);

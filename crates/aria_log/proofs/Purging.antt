@@ -12,9 +12,8 @@ use Rattle.aria_host.specs.State.{State, LeavesOnly}
 use Rattle.aria_host.specs.Steps.{MayMake}
 use Rattle.aria_host.specs.Calls.{Lists, HaveNames, Narrows, Removes}
 use Rattle.aria_host.proofs.Files.{with_file-same, with_file-other}
-use Rattle.aria_host.proofs.Moments.{started, goes_on, joined, weakened}
+use Rattle.aria_host.proofs.Moments.{OnlyNow, started, goes_on, joined, weakened}
 use Rattle.aria_log.specs.Purge.{is_log_below, IsWithout, IsPurged, AtPurge, Purges, number_from, IsLowest}
-use Rattle.aria_log.proofs.Writing.{OnlyNow}
 
 -- ---- names
 

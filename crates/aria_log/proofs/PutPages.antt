@@ -6,12 +6,12 @@ use Rattle.std.proofs.lemmas.Bool.{cases_Bool, eqb-true, eq-eqb, false_from_ne_t
 use Rattle.aria_host.specs.declared.file_name.FileName.{FileName}
 use Rattle.aria_host.specs.declared.file_name.FileName.TheVariants.{Control, Log, Keys, Rows, NewKeys, NewRows}
 use Rattle.aria_host.specs.Folder.{Folder, is_log, same_file, put_page, with_file, with_page}
+use Rattle.aria_host.specs.Moments.{SameBut}
 use Rattle.aria_host.specs.Steps.{MayWrite, MayMake}
 use Rattle.aria_host.specs.Seen.{page_or_zero}
-use Rattle.aria_host.proofs.Files.{get_or-put_page, length-put_page, with_file-same, with_file-other}
+use Rattle.aria_host.proofs.Files.{get_or-put_page, length-put_page, with_file-same, with_file-other, set_others}
 use Rattle.aria_log.specs.LogPage.{read_log_page}
 use Rattle.aria_log.specs.Pieces.{Piece, log_files, pieces_of}
-use Rattle.aria_log.specs.Log.{SameOthers}
 use Rattle.aria_log.proofs.LogPages.{torn_reads}
 
 -- a file that isn't a log file is another than a log file
@@ -23,9 +23,9 @@ no_log f (Rows name) other = refl
 no_log f (NewKeys name) other = refl
 no_log f (NewRows name) other = refl
 
--- all other files stay where one of the log's is changed
-pub others_stay : (f : ℕ) (content : Option (List (List ℕ))) (d c : Folder) → c ≡ with_file (Log f) content d → SameOthers d c
-others_stay f content d c is g other = ap (λ (x : Folder). x g) is ∙ with_file-other (Log f) g content d (no_log f g other)
+-- all other files stay where one of the log's is changed, or isn't
+pub others_stay : (f : ℕ) (content : Option (List (List ℕ))) (d c : Folder) → (c ≡ d) ⊎ (c ≡ with_file (Log f) content d) → SameBut is_log d c
+others_stay f content d c step g other = set_others (Log f) g content d c (no_log f g other) step
 
 -- a file that is there has pages
 pub there_is : {o : Option (List (List ℕ))} {pages : List (List ℕ)} → o ≡ Some pages → IsSome o
@@ -83,7 +83,7 @@ pub record MayPut (k : ℕ) (found : Option Piece) (d c : Folder) : Type 0 where
   pub files : (f : ℕ) → (k / 1024 == f) ≡ false → c (Log f) ≡ d (Log f)
   pub there : IsSome (c (Log (k / 1024)))
   pub few : option_map_or length (c (Log (k / 1024))) 0 ≤ 1024
-  pub others : SameOthers d c
+  pub others : SameBut is_log d c
 
 -- what a page that is put leaves
 pub page_puts : (k : ℕ) (page : List ℕ) (found : Option Piece) (d c : Folder) (pages : List (List ℕ)) → c ≡ with_page (Log (k / 1024)) (k % 1024) page d → d (Log (k / 1024)) ≡ Some pages → length pages ≤ 1024
@@ -101,7 +101,7 @@ page_puts k page found d c pages is was few reads =
       files = λ f other. ap (λ (x : Folder). x (Log f)) is ∙ with_file-other (Log (k / 1024)) (Log f) content d other;
       there = there_is (here);
       few = omega (arith, ap (λ (o : Option (List (List ℕ))). option_map_or length o 0) here, length-put_page (k % 1024) page pages, few);
-      others = others_stay (k / 1024) content d c is;
+      others = others_stay (k / 1024) content d c (inr is);
     }
 
 -- what a write of a page behind the log's end may leave
@@ -121,7 +121,7 @@ write_puts k page d c pages (inr (inr (is, torn, size, broken, left))) was few n
 -- A log file is made: no page holds anything else.
 pub make_keeps : (f : ℕ) (done : Bool) (d c : Folder) → MayMake (Log f) (Some []) done d c → d (Log f) ≡ None
     → ((n : ℕ) → pieces_of (log_files c) n ≡ pieces_of (log_files d) n) × ((g : ℕ) → (f == g) ≡ false → c (Log g) ≡ d (Log g)) × (option_map_or length (c (Log f)) 0 ≤ 1024)
-    × (done ≡ true → IsSome (c (Log f))) × SameOthers d c
+    × (done ≡ true → IsSome (c (Log f))) × SameBut is_log d c
 unfolding pieces_of
 make_keeps f done d c (inr (undone, same)) absent = (
   λ n. ap (λ (x : Folder). read_log_page n (page_or_zero (n % 1024) (x (Log (n / 1024))))) same,

@@ -4,25 +4,26 @@ use Rattle.std.specs.Prelude.{IsSome}
 use Rattle.std.specs.Option.{option_map_or}
 use Rattle.std.proofs.lemmas.Bool.{cases_Bool, cases_lt, eqb-true}
 use Rattle.aria_host.specs.declared.file_name.FileName.TheVariants.{Log}
-use Rattle.aria_host.specs.Folder.{Folder, with_file}
+use Rattle.aria_host.specs.Folder.{Folder, is_log, with_file}
+use Rattle.aria_host.specs.Moments.{SameBut}
 use Rattle.aria_host.specs.State.{State}
 use Rattle.aria_host.specs.Steps.{MayMake}
 use Rattle.aria_host.specs.Calls.{Removes}
 use Rattle.aria_host.specs.Seen.{page_or_zero}
 use Rattle.aria_host.proofs.Files.{with_file-same, with_file-other}
+use Rattle.aria_host.proofs.Moments.{OnlyNow, one_call}
 use Rattle.aria_log.specs.declared.log.Log.{Log as LogValue}
 use Rattle.aria_log.specs.LogPage.{read_log_page}
 use Rattle.aria_log.specs.Pieces.{Piece, LogFiles, log_files, pieces_of, Stand, IsFront, may_behind}
 use Rattle.aria_log.specs.Groups.{Logged}
 use Rattle.aria_log.specs.Files.{IsSoundLog}
-use Rattle.aria_log.specs.Log.{SameOthers, file_of, IsBaseOf, AreAtRest, IsOpened, HoldsAll, Starts}
+use Rattle.aria_log.specs.Log.{file_of, IsBaseOf, AreAtRest, IsOpened, HoldsAll, Starts}
 use Rattle.aria_log.proofs.LogPages.{zero_reads}
 use Rattle.aria_log.proofs.PageReads.{high_reads}
 use Rattle.aria_log.proofs.Counting.{differ_below, lower_unless_same}
 use Rattle.aria_log.proofs.Fronts.{stand_same, next_same, next_none}
 use Rattle.aria_log.proofs.PutPages.{none_isnt, others_stay}
 use Rattle.aria_log.proofs.Images.{base_in}
-use Rattle.aria_log.proofs.Writing.{OnlyNow, one_call}
 
 -- no page of a file that isn't there holds anything
 pub none_reads : (files : LogFiles) (n : ℕ) → files (n / 1024) ≡ None → pieces_of files n ≡ None
@@ -203,11 +204,11 @@ remove_step log old new done base groups f only is above low removes =
     let here = same_shorter (log_files old.folder) (log_files d) base (length is.whole) (low_base base is.whole is.low) same is.sound in
     let sound = shorter_sound (log_files old.folder) (log_files d) base is.whole here is.based (shorter_front (log_files old.folder) (log_files d) (base / 8176) is.whole here is.front).stand is.sound in
     shorter_again (log_files old.folder) (log_files d) (log_files c) (base / 8176) end here (removed_shorter (f + 1) base end d c (omega arith) made above (none d same) sound) in
-    let after : (c : Folder) → new.may_leave c → HoldsAll base groups (log_files c) × (d : Folder) × old.may_leave d × SameOthers d c =
+    let after : (c : Folder) → new.may_leave c → HoldsAll base groups (log_files c) × (d : Folder) × old.may_leave d × SameBut is_log d c =
     λ c leaves.
     let (d, was, step) = removes.images c leaves in
     elim step [
-      | inl made ↦ (shorter_holds log old base groups (f + 1) (log_files c) is (short d c (is.rest d was) made), d, was, others_stay (f + 1) None d c made)
+      | inl made ↦ (shorter_holds log old base groups (f + 1) (log_files c) is (short d c (is.rest d was) made), d, was, others_stay (f + 1) None d c (inr made))
       | inr stays ↦ (subst (λ (x : Folder). HoldsAll base groups (log_files x)) (sym stays.1) (rest_holds log old base groups (f + 1) is d was), d, was, λ g other. ap (λ (x : Folder). x g) stays.1)
     ] in
     record {
@@ -231,7 +232,7 @@ remove_step log old new done base groups f only is above low removes =
             | inr apart ↦ gone old.folder new.folder g made apart ∙ is.none g over (later f g past apart) low'
           ]);
       same = λ finished g upto. ap (λ (x : Folder). x (Log g)) (removes.whole finished) ∙ with_file-other (Log (f + 1)) (Log g) None old.folder (differ_below (f + 1) g (omega (arith, upto, above, is.fills.number_is)));
-      keeps = one_call old new (HoldsAll base groups) only removes.tells (removed_stays removes.either) (rest_holds log old base groups (f + 1) is) after;
+      keeps = one_call old new only removes.tells (others_stay (f + 1) None old.folder new.folder removes.either) (rest_holds log old base groups (f + 1) is) after;
     }
   where
     sure : (b : Bool) (d c : Folder) → MayMake (Log (f + 1)) None b d c → IsTrue b → (c ≡ with_file (Log (f + 1)) None d) ⊎ ⊥
@@ -244,7 +245,3 @@ remove_step log old new done base groups f only is above low removes =
 
     later : (f g : ℕ) → f < g → (f + 1 == g) ≡ false → f + 1 < g
     later f g past apart = lower_unless_same (f + 1) g (omega (arith, past)) apart
-
-    removed_stays : (new.folder ≡ old.folder) ⊎ (new.folder ≡ with_file (Log (f + 1)) None old.folder) → SameOthers old.folder new.folder
-    removed_stays (inl same) g other = ap (λ (x : Folder). x g) same
-    removed_stays (inr made) g other = others_stay (f + 1) None old.folder new.folder made g other

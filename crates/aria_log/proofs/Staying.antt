@@ -47,7 +47,7 @@ narrows_leave old new same = record { folder = ap log_files same.folder; images 
 -- ---- the log
 
 -- a run that is written stays
-writing_stays : (s t : State) (base : ℕ) (whole : List Piece) (parts : List (List ℕ)) (there : Bool) → LeavesLog s t → IsWriting s base whole parts there → IsWriting t base whole parts there
+pub writing_stays : (s t : State) (base : ℕ) (whole : List Piece) (parts : List (List ℕ)) (there : Bool) → LeavesLog s t → IsWriting s base whole parts there → IsWriting t base whole parts there
 writing_stays s t base whole parts there same is = record {
   run = subst (λ (f : LogFiles). HoldRun (pieces_of f) (base / 8176 + length whole) true parts) (sym same.folder) is.run;
   reads = subst (λ (f : LogFiles). HoldsRun base whole parts f) (sym same.folder) is.reads;

@@ -7,12 +7,13 @@ use Rattle.aria_host.specs.Folder.{Folder}
 use Rattle.aria_host.specs.State.{State}
 use Rattle.aria_host.specs.Calls.{Syncs}
 use Rattle.aria_host.specs.Seen.{page_or_zero}
+use Rattle.aria_host.proofs.Moments.{OnlyNow, nothing_moves, one_look, one_after, sync_narrows}
 use Rattle.aria_log.specs.LogPage.{read_log_page}
 use Rattle.aria_log.specs.Pieces.{Piece, Pieces, LogFiles, log_files, pieces_of}
 use Rattle.aria_log.specs.Log.{LogMoments, HoldRun, behind, HoldsRun, IsThere, IsWriting, Synced, SyncedUpTo}
 use Rattle.aria_log.proofs.Counting.{below_or_same}
 use Rattle.aria_log.proofs.PutPages.{none_isnt}
-use Rattle.aria_log.proofs.Writing.{OnlyNow, one_call, one_after, nothing_moves}
+use Rattle.aria_log.proofs.Staying.{narrows_leave, writing_stays}
 
 -- a file is the same, so its pages are
 file_same : (a b : LogFiles) (n : ℕ) → b (n / 1024) ≡ a (n / 1024) → pieces_of b n ≡ pieces_of a n
@@ -36,23 +37,14 @@ pub synced_none : (s : State) (base : ℕ) (whole : List Piece) (parts : List (L
 synced_none s base whole parts there only is = record {
   writing = is;
   durable = λ c leaves n from upto below. absurd (omega (arith, from, upto));
-  keeps = nothing_moves s (HoldsRun base whole parts) only is.images;
+  keeps = nothing_moves s only is.images;
 }
 
 -- a file more was synced, or that failed
 sync_keeps : (old new : State) (f base : ℕ) (whole : List Piece) (parts : List (List ℕ)) (there done : Bool) → OnlyNow old → IsWriting old base whole parts there → Syncs (Log f) old new done
     → IsWriting new base whole parts there × LogMoments old new (HoldsRun base whole parts)
-sync_keeps old new f base whole parts there done only is syncs = (
-  record {
-    run = subst (λ (c : Folder). HoldRun (pieces_of (log_files c)) (base / 8176 + length whole) true parts) (sym syncs.folder) is.run;
-    reads = subst (λ (c : Folder). HoldsRun base whole parts (log_files c)) (sym syncs.folder) is.reads;
-    now = subst (λ (c : Folder). IsThere there (log_files c) (behind base whole parts)) (sym syncs.folder) is.now;
-    images = λ c leaves. is.images c (syncs.no_more c leaves);
-    each = λ c leaves. is.each c (syncs.no_more c leaves);
-  },
-  one_call old new (HoldsRun base whole parts) only syncs.tells (λ g other. ap (λ (c : Folder). c g) syncs.folder) is.images
-      (λ c leaves. (is.images c (syncs.no_more c leaves), c, syncs.no_more c leaves, λ g other. refl)),
-)
+sync_keeps old new f base whole parts there done only is syncs =
+    let looks = sync_narrows old new syncs in (writing_stays old new base whole parts there (narrows_leave old new looks) is, one_look old new only looks is.images)
 
 pub synced_more : (start old new : State) (f base : ℕ) (whole : List Piece) (parts : List (List ℕ)) (there : Bool) → OnlyNow old → SyncedUpTo start old base whole parts there f → Syncs (Log f) old new true
     → (base / 8176 + length whole) / 1024 ≤ f → f < (behind base whole parts - 1) / 1024 + 1 → base / 8176 + length whole < behind base whole parts → SyncedUpTo start new base whole parts there (f + 1)
@@ -69,7 +61,7 @@ synced_more start old new f base whole parts there only so_far syncs from below 
             let durable : c (Log f) ≡ old.folder (Log f) = syncs.durable refl c leaves some' in
             file_same (log_files old.folder) (log_files c) n (ap (λ (g : ℕ). c (Log g)) same ∙ durable ∙ ap (λ (g : ℕ). old.folder (Log g)) (sym same)) ∙ ap (λ (g : Folder). pieces_of (log_files g) n) (sym syncs.folder)
       ];
-      keeps = one_after start old new (HoldsRun base whole parts) so_far.keeps next.1;
+      keeps = one_after start old new so_far.keeps next.1;
     }
 
 -- a sync failed
@@ -80,7 +72,7 @@ synced_failed start old new f base whole parts there done failed only so_far syn
     record {
       writing = λ finished. next.0;
       durable = λ finished. absurd (not_done failed is_failed finished);
-      keeps = one_after start old new (HoldsRun base whole parts) so_far.keeps next.1;
+      keeps = one_after start old new so_far.keeps next.1;
     }
   where
     not_done : (b : Bool) → b ≡ false → IsTrue b → ⊥

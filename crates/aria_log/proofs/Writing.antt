@@ -7,73 +7,19 @@ use Rattle.std.proofs.lemmas.Grind.{flat_map-append}
 use Rattle.std.proofs.lemmas.List.{append-nil, length_push}
 use Rattle.std.proofs.lemmas.List.Elements.{All-head, All-tail}
 use Rattle.aria_host.specs.declared.file_name.FileName.TheVariants.{Log}
-use Rattle.aria_host.specs.Folder.{Folder, with_file, with_page}
+use Rattle.aria_host.specs.Folder.{Folder, is_log, put_page, with_file, with_page}
+use Rattle.aria_host.specs.Moments.{SameBut}
 use Rattle.aria_host.specs.State.{State}
 use Rattle.aria_host.specs.Steps.{MayWrite, MayMake}
-use Rattle.aria_host.specs.Calls.{Writes, Creates, TellsNothing}
-use Rattle.aria_host.proofs.Moments.{started, goes_on, joined as runs_joined, weakened}
+use Rattle.aria_host.specs.Calls.{Writes, Creates}
+use Rattle.aria_host.proofs.Moments.{OnlyNow, one_call, nothing_moves}
 use Rattle.aria_log.specs.declared.log.Log.{Log as LogValue}
 use Rattle.aria_log.specs.LogPage.{read_log_page}
 use Rattle.aria_log.specs.Pieces.{Piece, Pieces, LogFiles, log_files, pieces_of}
-use Rattle.aria_log.specs.Log.{SameOthers, AtLog, LogMoments, HoldRun, HoldPart, AreFull, joined, file_of, behind, FilesStand, HoldsRun, IsImage, IsThere, IsWriting, Fills, Makes, Wrote}
+use Rattle.aria_log.specs.Log.{LogMoments, HoldRun, HoldPart, AreFull, joined, file_of, behind, FilesStand, HoldsRun, IsImage, IsThere, IsWriting, Fills, Makes, Wrote}
 use Rattle.aria_log.proofs.Counting.{differ_above, differ_below, below_unless_same, not_first, is_first, not_true, not_false}
 use Rattle.aria_log.proofs.Fronts.{stand_same}
 use Rattle.aria_log.proofs.PutPages.{none_isnt, others_stay, piece_put, MayPut, write_puts, pages_of, make_keeps}
-
--- ---- moments
-
--- since this moment there is no other
-abbrev pub OnlyNow : State → Type 0
-OnlyNow s = (c : Folder) (b : List ℕ) → s.since s.moment c b → s.may_leave c × (b ≡ s.out)
-
--- a front of nothing
-take_nothing : (n : ℕ) (l : List ℕ) → length l ≡ 0 → take n l ≡ []
-take_nothing zero l e = refl
-take_nothing (suc n) [] e = refl
-take_nothing (suc n) (b ∷ l) e = absurd (omega (arith, e))
-
--- a call that tells nothing, before and after which the log's files have P
-pub one_call : (old new : State) (P : LogFiles → Type 0) → OnlyNow old → TellsNothing old new → SameOthers old.folder new.folder
-    → ((c : Folder) → old.may_leave c → P (log_files c))
-    → ((c : Folder) → new.may_leave c → P (log_files c) × (d : Folder) × old.may_leave d × SameOthers d c) → LogMoments old new P
-one_call old new P only tells same before after = record {
-  moments = goes_on old old new [] (AtLog old P)
-      (started old (AtLog old P) (λ c b left. let now = only c b left in record { log = before c now.0; others = (c, now.0, λ f other. refl); told_is = now.1 }))
-      tells.time
-      (λ c n leaves. let is = after c leaves in record { log = is.0; others = (is.1, is.2, is.3); told_is = ap (λ (l : List ℕ). old.out ++ l) (take_nothing n [] refl) ∙ append-nil old.out });
-  others = record { folder = same; images = λ c leaves. let is = after c leaves in (is.1, is.2, is.3); out = tells.out; err = tells.err };
-}
-
--- one call after the other
-pub one_after : (a b c : State) (P : LogFiles → Type 0) → LogMoments a b P → LogMoments b c P → LogMoments a c P
-one_after a b c P first second = record {
-  moments = runs_joined a b c (AtLog a P) (AtLog b P) first.moments second.moments (λ f told at.
-      let (d, was, same) = at.others in
-      let (e, left, before) = first.others.images d was in
-      record { log = at.log; others = (e, left, λ g other. same g other ∙ before g other); told_is = at.told_is ∙ first.others.out });
-  others = record {
-    folder = λ f other. second.others.folder f other ∙ first.others.folder f other;
-    images = λ f leaves. let (d, was, same) = second.others.images f leaves in let (e, left, before) = first.others.images d was in (e, left, λ g other. same g other ∙ before g other);
-    out = second.others.out ∙ first.others.out;
-    err = second.others.err ∙ first.others.err;
-  };
-}
-
--- what has P has Q
-pub more_at_log : (old new : State) (P Q : LogFiles → Type 0) → LogMoments old new P → ((files : LogFiles) → P files → Q files) → LogMoments old new Q
-more_at_log old new P Q run implies = record {
-  moments = weakened old new (AtLog old P) (AtLog old Q) run.moments (λ c told at. record { log = implies (log_files c) at.log; others = at.others; told_is = at.told_is });
-  others = run.others;
-}
-
--- nothing was done
-pub nothing_moves : (s : State) (P : LogFiles → Type 0) → OnlyNow s → ((c : Folder) → s.may_leave c → P (log_files c)) → LogMoments s s P
-nothing_moves s P only here = record {
-  moments = started s (AtLog s P) (λ c b left. let now = only c b left in record { log = here c now.0; others = (c, now.0, λ f other. refl); told_is = now.1 });
-  others = record { folder = λ f other. refl; images = λ c leaves. (c, leaves, λ f other. refl); out = refl; err = refl };
-}
-
--- ---- runs
 
 -- whether the page behind these begins the run, where the first of them does or doesn't
 abbrev pub begins_after : Bool → List (List ℕ) → Bool
@@ -234,7 +180,7 @@ run_part pieces n begins (bytes ∷ parts) run = (inl run.0, run_part pieces (n 
 -- what one image is after a page was written
 image_written : (base k : ℕ) (whole : List Piece) (parts : List (List ℕ)) (bytes page : List ℕ) (there : Bool) (d c : Folder) → k ≡ behind base whole parts → k < 2 ^ 34 - 1 → read_log_page k page ≡ Some (begins_after true parts, bytes)
     → there ≡ (not ((k + 1) % 1024 == 0)) → HoldsRun base whole parts (log_files d) → IsThere true (log_files d) (behind base whole parts) → MayWrite (Log (k / 1024)) (k % 1024) page d c
-    → HoldsRun base whole (parts ++ bytes ∷ []) (log_files c) × IsThere there (log_files c) (behind base whole (parts ++ bytes ∷ [])) × SameOthers d c
+    → HoldsRun base whole (parts ++ bytes ∷ []) (log_files c) × IsThere there (log_files c) (behind base whole (parts ++ bytes ∷ [])) × SameBut is_log d c
 image_written base k whole parts bytes page there d c at limit reads there_is holds now step =
     let (pages, was) = pages_of (d (Log (k / 1024))) (subst (λ (n : ℕ). IsSome (d (Log (n / 1024)))) (sym at) now) in
     let few : length pages ≤ 1024 = omega (arith, ap (λ (o : Option (List (List ℕ))). option_map_or length o 0) was, holds.files.few (k / 1024) (reach base k whole parts at) (omega (arith, at))) in
@@ -249,11 +195,6 @@ image_written base k whole parts bytes page there d c at limit reads there_is ho
     reach : (base k : ℕ) (whole : List Piece) (parts : List (List ℕ)) → k ≡ behind base whole parts → file_of base ≤ k / 1024
     reach base k whole parts at = omega (arith, at)
 
--- the folder's other files after a write that was done or not
-pub folder_stays : (k : ℕ) (page : List ℕ) (old new : State) → (new.folder ≡ old.folder) ⊎ (new.folder ≡ with_page (Log (k / 1024)) (k % 1024) page old.folder) → SameOthers old.folder new.folder
-folder_stays k page old new (inl same) f other = ap (λ (g : Folder). g f) same
-folder_stays k page old new (inr put) f other = others_stay (k / 1024) _ old.folder new.folder put f other
-
 -- a whole run is an image of its bytes
 pub run_is_image : (base : ℕ) (whole : List Piece) (parts : List (List ℕ)) (ahead text : List ℕ) (files : LogFiles) → HoldsRun base whole parts files → AreFull parts → joined parts ++ ahead ≡ text → IsImage base whole text files
 run_is_image base whole parts ahead text files holds full is = record { parts = parts; ahead = ahead; holds = holds; full = full; text_is = is }
@@ -264,7 +205,7 @@ pub write_step : (log : LogValue) (old new : State) (done : Bool) (k : ℕ) (pag
     → (IsTrue done → log.there ≡ (not ((k + 1) % 1024 == 0))) → (IsTrue done → Fills log (behind base whole parts + 1) []) → Wrote log old new base whole parts held done
 write_step log old new done k page base whole parts held only at limit reads is full writes there filled =
     let next : Bool = not ((k + 1) % 1024 == 0) in
-    let after : (c : Folder) → new.may_leave c → HoldsRun base whole (parts ++ held ∷ []) (log_files c) × IsThere next (log_files c) (behind base whole (parts ++ held ∷ [])) × (d : Folder) × old.may_leave d × SameOthers d c =
+    let after : (c : Folder) → new.may_leave c → HoldsRun base whole (parts ++ held ∷ []) (log_files c) × IsThere next (log_files c) (behind base whole (parts ++ held ∷ [])) × (d : Folder) × old.may_leave d × SameBut is_log d c =
     λ c leaves. let (d, was, step) = writes.images c leaves in let (run, now, others) = image_written base k whole parts held page next d c at limit reads refl (is.images d was) (is.each d was) step in (run, now, d, was, others) in
     let text : joined (parts ++ held ∷ []) ++ [] ≡ joined parts ++ held = append-nil (joined (parts ++ held ∷ [])) ∙ joined_push parts held in
     let written : IsTrue done → IsWriting new base whole (parts ++ held ∷ []) next =
@@ -280,7 +221,7 @@ write_step log old new done k page base whole parts held only at limit reads is 
     record {
       writing = λ finished. subst (λ (b : Bool). IsWriting new base whole (parts ++ held ∷ []) b) (sym (there finished)) (written finished);
       fills = filled;
-      keeps = one_call old new (IsImage base whole (joined parts ++ held)) only writes.tells (folder_stays k page old new writes.either)
+      keeps = one_call old new only writes.tells (others_stay (k / 1024) _ old.folder new.folder writes.either)
           (λ c leaves. run_is_image base whole parts held (joined parts ++ held) (log_files c) (is.images c leaves) (full_are parts full) refl)
           (λ c leaves. let (run, now, d, was, others) = after c leaves in (run_is_image base whole (parts ++ held ∷ []) [] (joined parts ++ held) (log_files c) run (full_more parts held full) text, d, was, others));
     }
@@ -301,7 +242,7 @@ pub make_step : (old new : State) (done : Bool) (k base : ℕ) (whole : List Pie
     → Makes old new base whole parts done
 make_step old new done k base whole parts only at is creates =
     let image : (c d : Folder) (b : Bool) → HoldsRun base whole parts (log_files d) → IsThere false (log_files d) (behind base whole parts) → MayMake (Log (k / 1024)) (Some []) b d c
-    → HoldsRun base whole parts (log_files c) × (b ≡ true → IsSome (c (Log (k / 1024)))) × SameOthers d c =
+    → HoldsRun base whole parts (log_files c) × (b ≡ true → IsSome (c (Log (k / 1024)))) × SameBut is_log d c =
     λ c d b holds absent step.
     let (same, files, few, there, others) = make_keeps (k / 1024) b d c step (ap (λ (n : ℕ). d (Log (n / 1024))) at ∙ absent) in (
       run_same_pages base whole parts (log_files d) (log_files c) holds same
@@ -309,7 +250,7 @@ make_step old new done k base whole parts only at is creates =
       there,
       others,
     ) in
-    let after : (c : Folder) → new.may_leave c → HoldsRun base whole parts (log_files c) × (done ≡ true → IsSome (c (Log (k / 1024)))) × (d : Folder) × old.may_leave d × SameOthers d c =
+    let after : (c : Folder) → new.may_leave c → HoldsRun base whole parts (log_files c) × (done ≡ true → IsSome (c (Log (k / 1024)))) × (d : Folder) × old.may_leave d × SameBut is_log d c =
     λ c leaves. let (d, was, step) = creates.images c leaves in let (run, there, others) = image c d done (is.images d was) (is.each d was) step in (run, there, d, was, others) in
     record {
       writing = λ finished.
@@ -322,7 +263,7 @@ make_step old new done k base whole parts only at is creates =
             images = λ c leaves. (after c leaves).0;
             each = λ c leaves. subst (λ (n : ℕ). IsSome (c (Log (n / 1024)))) at ((after c leaves).1 (is_true done finished));
           };
-      keeps = one_call old new (HoldsRun base whole parts) only creates.tells (made_stays creates.either) (λ c leaves. is.images c leaves) (λ c leaves. let (run, there, d, was, others) = after c leaves in (run, d, was, others));
+      keeps = one_call old new only creates.tells (others_stay (k / 1024) (Some []) old.folder new.folder creates.either) is.images (λ c leaves. let (run, there, d, was, others) = after c leaves in (run, d, was, others));
     }
   where
     first_page : (d : Folder) → HoldsRun base whole parts (log_files d) → IsThere false (log_files d) (behind base whole parts) → k % 1024 ≡ 0
@@ -335,13 +276,9 @@ make_step old new done k base whole parts only at is creates =
     is_true true t = refl
     is_true false t = absurd (cc)
 
-    made_stays : (new.folder ≡ old.folder) ⊎ (new.folder ≡ with_file (Log (k / 1024)) (Some []) old.folder) → SameOthers old.folder new.folder
-    made_stays (inl same) f other = ap (λ (g : Folder). g f) same
-    made_stays (inr made) f other = others_stay (k / 1024) (Some []) old.folder new.folder made f other
-
 -- the file of the page behind a run is there already
 pub made_already : (s : State) (base : ℕ) (whole : List Piece) (parts : List (List ℕ)) → OnlyNow s → IsWriting s base whole parts true → Makes s s base whole parts true
-made_already s base whole parts only is = record { writing = λ done. is; keeps = nothing_moves s (HoldsRun base whole parts) only is.images }
+made_already s base whole parts only is = record { writing = λ done. is; keeps = nothing_moves s only is.images }
 
 -- the file of the page behind a run isn't there
 pub absent_file : (s : State) (number f base : ℕ) (whole : List Piece) (parts : List (List ℕ)) → number ≡ behind base whole parts → f ≡ number / 1024 → IsWriting s base whole parts false → IsNone (s.folder (Log f))

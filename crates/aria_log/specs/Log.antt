@@ -3,9 +3,9 @@ use Rattle.std.specs.Prelude.{◌≡◌, ◌⊎◌, ◌==◌, ⊤, ℕ, ◌+◌,
 use Rattle.std.specs.List.{flat_map}
 use Rattle.std.specs.Option.{option_map, option_map_or}
 use Rattle.aria_page.specs.Page.{zero_page}
-use Rattle.aria_host.specs.declared.file_name.FileName.{FileName}
 use Rattle.aria_host.specs.Folder.{Folder, is_log}
-use Rattle.aria_host.specs.State.{State, LeavesOnly}
+use Rattle.aria_host.specs.Moments.{Moments}
+use Rattle.aria_host.specs.State.{State}
 use Rattle.aria_host.specs.Seen.{page_or_zero}
 use Rattle.aria_record.specs.declared.record.Record.{Record}
 use Rattle.aria_record.specs.Groups.{IsGroup}
@@ -15,29 +15,11 @@ use Rattle.aria_log.specs.Pieces.{Piece, Pieces, LogFiles, log_files, pieces_of,
 use Rattle.aria_log.specs.Groups.{Logged, placed, groups_bytes, groups_from}
 use Rattle.aria_log.specs.Files.{HoldsLog, IsSoundLog, HoldsFrom}
 
--- ---- files that are left alone
+-- ---- the log at each moment
 
--- all files but the log's are as they were
-abbrev pub SameOthers : Folder → Folder → Type 0
-SameOthers old new = (f : FileName) → is_log f ≡ false → new f ≡ old f
-
--- Files other than the log's are left alone, in each image too, and nothing is told.
-pub record LeavesOthers (old new : State) : Type 0 where
-  pub folder : SameOthers old.folder new.folder
-  pub images : (c : Folder) → new.may_leave c → (d : Folder) × old.may_leave d × SameOthers d c
-  pub out : new.out ≡ old.out
-  pub err : new.err ≡ old.err
-
--- a crash leaves the log's files with P, and all else as a crash before might have
-pub record AtLog (old : State) (P : LogFiles → Type 0) (c : Folder) (told : List ℕ) : Type 0 where
-  pub log : P (log_files c)
-  pub others : (d : Folder) × old.may_leave d × SameOthers d c
-  pub told_is : told ≡ old.out
-
--- A crash at any moment leaves the log's files with P, and all else is left alone.
-pub record LogMoments (old new : State) (P : LogFiles → Type 0) : Type 0 where
-  pub moments : LeavesOnly old new (AtLog old P)
-  pub others : LeavesOthers old new
+-- A crash at any moment leaves the log's files with P, and all other files are left alone.
+abbrev pub LogMoments : State → State → (LogFiles → Type 0) → Type 0
+LogMoments old new P = Moments is_log old new (λ c. P (log_files c))
 
 -- ---- a run while it is written
 

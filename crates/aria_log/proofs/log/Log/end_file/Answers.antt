@@ -3,7 +3,7 @@ use Rattle.aria_host.specs.declared.file_name.FileName.TheVariants.{Log}
 use Rattle.aria_host.specs.Folder.{Folder}
 use Rattle.aria_host.specs.Calls.{extent_of}
 use Rattle.aria_log.specs.Log.{HoldsAll}
-use Rattle.aria_log.proofs.Writing.{one_after}
+use Rattle.aria_host.proofs.Moments.{one_after}
 use Rattle.aria_log.proofs.Staying.{look_opened}
 use Rattle.aria_log.proofs.Cutting.{look_keeps, found_none}
 use Rattle.aria_log.proofs.Blank.{none_end, looked_end}
@@ -38,7 +38,7 @@ pub returns-in_err-end_pages-in-Some-clause-moments : goal.returns-in_err-end_pa
 returns-in_err-end_pages-in-Some-clause-moments g c = λ told base groups is.
     let old = g.H.Host.state c.args.host.now in
     let mid = g.H.Host.state c.look.new.self in
-    one_after old mid (g.H.Host.state c.end_pages.new.host) (HoldsAll base groups)
+    one_after old mid (g.H.Host.state c.end_pages.new.host)
     (look_keeps c.args.self.now old mid base groups _ (λ f b left. g.met.H.Host.only_now c.args.host.now f b told left) (c.in_ok-look.ensures.same told) is)
     (c.in_err-end_pages-in-Some.ensures.moments told base groups (look_opened c.args.self.now old mid base groups _ (c.in_ok-look.ensures.same told) is))
 
@@ -53,6 +53,6 @@ pub returns-in_ok-end_pages-in-Some-clause-moments : goal.returns-in_ok-end_page
 returns-in_ok-end_pages-in-Some-clause-moments g c = λ told base groups is.
     let old = g.H.Host.state c.args.host.now in
     let mid = g.H.Host.state c.look.new.self in
-    one_after old mid (g.H.Host.state c.end_pages.new.host) (HoldsAll base groups)
+    one_after old mid (g.H.Host.state c.end_pages.new.host)
     (look_keeps c.args.self.now old mid base groups _ (λ f b left. g.met.H.Host.only_now c.args.host.now f b told left) (c.in_ok-look.ensures.same told) is)
     (c.in_ok-end_pages-in-Some.ensures.moments told base groups (look_opened c.args.self.now old mid base groups _ (c.in_ok-look.ensures.same told) is))

@@ -2,7 +2,7 @@ use Rattle.std.proofs.Common.{◌/◌, ◌%◌, ℕ, ap}
 use Rattle.aria_host.specs.Folder.{Folder}
 use Rattle.aria_log.specs.Pieces.{log_files}
 use Rattle.aria_log.specs.Log.{HoldsAll}
-use Rattle.aria_log.proofs.Writing.{one_after}
+use Rattle.aria_host.proofs.Moments.{one_after}
 use Rattle.aria_log.proofs.Staying.{look_opened}
 use Rattle.aria_log.proofs.Cutting.{look_keeps}
 use Rattle.aria_log.proofs.Blank.{isnt_blank, cut_there, kept_end, cut_end}
@@ -36,7 +36,7 @@ pub returns-in_err-cut_end-clause-moments : goal.returns-in_err-cut_end-clause-m
 returns-in_err-cut_end-clause-moments g c = λ told base groups is.
     let old = g.H.Host.state c.args.host.now in
     let mid = g.H.Host.state c.is_blank.new.host in
-    one_after old mid (g.H.Host.state c.cut_end.new.host) (HoldsAll base groups)
+    one_after old mid (g.H.Host.state c.cut_end.new.host)
     (look_keeps c.args.self.now old mid base groups _ (λ f b left. g.met.H.Host.only_now c.args.host.now f b told left) (c.in_ok-is_blank.ensures.same told) is)
     (c.in_err-cut_end.ensures.moments told base groups (look_opened c.args.self.now old mid base groups _ (c.in_ok-is_blank.ensures.same told) is))
 
@@ -53,6 +53,6 @@ pub returns-clause-moments : goal.returns-clause-moments
 returns-clause-moments g c = λ told base groups is.
     let old = g.H.Host.state c.args.host.now in
     let mid = g.H.Host.state c.is_blank.new.host in
-    one_after old mid (g.H.Host.state c.cut_end.new.host) (HoldsAll base groups)
+    one_after old mid (g.H.Host.state c.cut_end.new.host)
     (look_keeps c.args.self.now old mid base groups _ (λ f b left. g.met.H.Host.only_now c.args.host.now f b told left) (c.in_ok-is_blank.ensures.same told) is)
     (c.in_ok-cut_end.ensures.moments told base groups (look_opened c.args.self.now old mid base groups _ (c.in_ok-is_blank.ensures.same told) is))

@@ -1,6 +1,6 @@
 use Rattle.std.proofs.Common.{◌/◌, refl, arith}
 use Rattle.aria_log.specs.Log.{HoldsAll}
-use Rattle.aria_log.proofs.Writing.{one_after}
+use Rattle.aria_host.proofs.Moments.{one_after}
 use Rattle.aria_log.proofs.Cutting.{started_log}
 use Rattle.aria_log.proofs.Blank.{keeps_room}
 use Rattle.aria_log.proofs.log.Log.start.Goals as goal
@@ -18,7 +18,7 @@ end_file-requires g c = record {
 pub returns-in_err-pages-clause-moments : goal.returns-in_err-pages-clause-moments
 returns-in_err-pages-clause-moments g c = λ told base groups is.
     let removed = c.in_ok-remove_later.ensures.starts told base groups is in
-    one_after (g.H.Host.state c.args.host.now) (g.H.Host.state c.remove_later.new.host) (g.H.Host.state c.end_file.new.host) (HoldsAll base groups) removed.keeps
+    one_after (g.H.Host.state c.args.host.now) (g.H.Host.state c.remove_later.new.host) (g.H.Host.state c.end_file.new.host) removed.keeps
     (c.in_err-pages.ensures.moments told base groups (removed.opened refl))
 
 pub returns-clause-started : goal.returns-clause-started
@@ -36,5 +36,5 @@ returns-clause-room g c = λ told base groups is.
 pub returns-clause-moments : goal.returns-clause-moments
 returns-clause-moments g c = λ told base groups is.
     let removed = c.in_ok-remove_later.ensures.starts told base groups is in
-    one_after (g.H.Host.state c.args.host.now) (g.H.Host.state c.remove_later.new.host) (g.H.Host.state c.end_file.new.host) (HoldsAll base groups) removed.keeps
+    one_after (g.H.Host.state c.args.host.now) (g.H.Host.state c.remove_later.new.host) (g.H.Host.state c.end_file.new.host) removed.keeps
     (c.in_ok-pages.ensures.moments told base groups (removed.opened refl))
