@@ -15,7 +15,7 @@ use Rattle.aria_log.specs.declared.find.Damage.{Damage}
 use Rattle.aria_log.specs.declared.find.Found.{Found as FoundValue}
 use Rattle.aria_log.specs.Pieces.{Piece, LogFiles, log_files, pieces_of, IsFront}
 use Rattle.aria_log.specs.Files.{IsSoundLog}
-use Rattle.aria_log.specs.Finding.{start_of, base_of, IsAbsent, IsMissing, NoneMissing, IsNowhere, IsDamage, IsDamageFrom, EndsFront, Finds, FindAnswers, Fails as FindFails}
+use Rattle.aria_log.specs.Finding.{start_of, base_of, IsAbsent, IsMissing, NoneMissing, IsNowhere, IsDamage, IsDamageFrom, EndsFront, Finds, Answers as FindAnswers, Fails as FindFails}
 use Rattle.aria_log.proofs.Fronts.{front_unique}
 use Rattle.aria_readlog.specs.Start.{IsStart}
 use Rattle.aria_readlog.specs.Telling.{IsReadFault}
@@ -26,12 +26,12 @@ use Rattle.aria_readlog.proofs.Started.{IsOnly, start_file, base_at, readable_of
 -- ---- the answer that is given fits
 
 -- where the log was found and told
-pub answer_of : (folder : Folder) (start : Lsn) (found : FoundValue) (result : Result (Unit {0}) Fault) → Begins folder start → Finds start (log_files folder) found → IsReadFrom start (log_files folder) found.log
+pub answer_of : (folder : Folder) (start : Lsn) (found : FoundValue) (result : Result (Unit {0}) Fault) → Begins folder start → NoneMissing start (log_files folder) → Finds start (log_files folder) found → IsReadFrom start (log_files folder) found.log
     → IsEnd found.damage result → Fails result ⊎ Answers result folder
-answer_of folder start found (Ok done) begins finds r end = inr (record {
+answer_of folder start found (Ok done) begins missing finds r end = inr (record {
   start = start;
   begins = begins;
-  missing = finds.missing;
+  missing = missing;
   base = finds.base;
   base_is = finds.base_is;
   end = found.log.number;
@@ -45,7 +45,7 @@ answer_of folder start found (Ok done) begins finds r end = inr (record {
 
     page : r.n ≡ finds.base / 8176
     page = (let e : r.n ≡ 8176 * r.n / 8176 = omega arith in e) ∙ ap (λ (b : ℕ). b / 8176) (sym (same_Some finds.base (8176 * r.n) (sym finds.base_is ∙ r.base_is)))
-answer_of folder start found (Err fault) begins finds r end = by found.damage finds.damaged end
+answer_of folder start found (Err fault) begins missing finds r end = by found.damage finds.damaged end
   where
     read : (fault : Fault) → IsReadFault true fault → Fails {T = Unit {0}} (Err fault)
     read Disk is = tt
@@ -64,10 +64,10 @@ answer_of folder start found (Err fault) begins finds r end = by found.damage fi
     by None damaged end = inl (read fault end)
     by (Some damage) damaged (inl is) = inl (read fault is)
     by (Some damage) damaged (inr is) = inr (subst (λ (f : Fault). Answers (Err f) folder) (sym is)
-        (record { start = start; begins = begins; missing = finds.missing; damage = inr (finds.base, finds.base_is, damaged) }))
+        (record { start = start; begins = begins; missing = missing; damage = inr (finds.base, finds.base_is, damaged) }))
 
 -- where the log wasn't found
-pub answer_unfound : (folder : Folder) (start : Lsn) (fault : Fault) → Begins folder start → FindFails {T = FoundValue} (Err fault) ⊎ FindAnswers start (log_files folder) (Err fault) → Fails {T = Unit {0}} (Err fault) ⊎ Answers (Err fault) folder
+pub answer_unfound : (folder : Folder) (start : Lsn) (fault : Fault) → Begins folder start → FindFails {T = FoundValue} (Err fault) ⊎ FindAnswers start (log_files folder) (Finds start (log_files folder)) (IsNowhere start) (Err fault) → Fails {T = Unit {0}} (Err fault) ⊎ Answers (Err fault) folder
 answer_unfound folder start Disk begins (inl is) = inl tt
 answer_unfound folder start (Memory error) begins (inl is) = inl tt
 answer_unfound folder start Tell begins (inl is) = absurd is
@@ -93,7 +93,7 @@ answer_unfound folder start (PageDamaged file page) begins (inr is) = absurd is
 answer_unfound folder start TooManyTables begins (inr is) = absurd is
 
 -- no byte has the number of the log's start
-pub not_nowhere : (folder : Folder) (start : Lsn) (fault : Fault) → (NoneMissing start (log_files folder) → (file page : ℕ) → ¬ IsNowhere start file page) → FindFails {T = FoundValue} (Err fault) ⊎ FindAnswers start (log_files folder) (Err fault)
+pub not_nowhere : (folder : Folder) (start : Lsn) (fault : Fault) → (NoneMissing start (log_files folder) → (file page : ℕ) → ¬ IsNowhere start file page) → FindFails {T = FoundValue} (Err fault) ⊎ FindAnswers start (log_files folder) (Finds start (log_files folder)) (IsNowhere start) (Err fault)
     → IsDamaged (Err fault) → ⊥
 not_nowhere folder start (LogDamaged file page) none (inl is) damaged = absurd is
 not_nowhere folder start (LogDamaged file page) none (inr (missing, nowhere)) damaged = none missing file page nowhere
@@ -206,30 +206,31 @@ only_answer folder found start result other read starts (inr here) is =
 -- it was found
 pub looked : (folder f1 f2 : Folder) (control : Found) (start first : Lsn) (found : FoundValue) → f1 ≡ folder → f2 ≡ f1
     → ControlFails (Ok control) ⊎ ControlAnswers (Ok control) folder → ((other : Result Found Fault) → ControlAnswers other folder → ControlFails (Ok control) ⊎ (other ≡ Ok control))
-    → IsStart control (log_files f1) start → IsLsn start → FindFails (Ok found) ⊎ FindAnswers start (log_files f2) (Ok found) → first ≡ start_of start → IsLooked folder found first
+    → IsStart control (log_files f1) start → IsLsn start → FindFails (Ok found) ⊎ FindAnswers start (log_files f2) (Finds start (log_files f2)) (IsNowhere start) (Ok found) → first ≡ start_of start → IsLooked folder found first
 looked folder f1 f2 control start first found same same' answers only starts lsn finds first_is =
     let start_is = subst (λ (f : Folder). IsStart control (log_files f) start) same starts in
-    let found_is : Finds start (log_files folder) found = subst (λ (f : Folder). Finds start (log_files f) found) (same' ∙ same)
-    (⊎_elim (λ (fails : FindFails (Ok found)). absurd fails) (λ (is : Finds start (log_files f2) found). is) finds) in
+    let found_is : NoneMissing start (log_files folder) × Finds start (log_files folder) found = subst (λ (f : Folder). NoneMissing start (log_files f) × Finds start (log_files f) found) (same' ∙ same)
+    (⊎_elim (λ (fails : FindFails (Ok found)). absurd fails) (λ (is : NoneMissing start (log_files f2) × Finds start (log_files f2) found). is) finds) in
     record {
       control = control;
       is = ⊎_elim (λ (fails : ControlFails (Ok control)). absurd fails) (λ (is : ControlAnswers (Ok control) folder). is) answers;
       only = λ other is. ⊎_elim (λ (fails : ControlFails (Ok control)). absurd fails) (λ (e : other ≡ Ok control). e) (only other is);
       start = start;
       starts = start_is;
-      finds = found_is;
+      missing = found_is.0;
+      finds = found_is.1;
       first_is = first_is;
-      from = readable_of control (log_files folder) start found start_is lsn found_is;
+      from = readable_of control (log_files folder) start found start_is lsn found_is.0 found_is.1;
     }
 
 -- it wasn't
 pub refused : (folder f1 f2 : Folder) (control : Found) (start : Lsn) (fault : Fault) → f1 ≡ folder → f2 ≡ f1
     → ControlFails (Ok control) ⊎ ControlAnswers (Ok control) folder → ((other : Result Found Fault) → ControlAnswers other folder → ControlFails (Ok control) ⊎ (other ≡ Ok control))
-    → IsStart control (log_files f1) start → IsLsn start → FindFails {T = FoundValue} (Err fault) ⊎ FindAnswers start (log_files f2) (Err fault) → IsRefused folder fault
+    → IsStart control (log_files f1) start → IsLsn start → FindFails {T = FoundValue} (Err fault) ⊎ FindAnswers start (log_files f2) (Finds start (log_files f2)) (IsNowhere start) (Err fault) → IsRefused folder fault
 refused folder f1 f2 control start fault same same' answers only starts lsn finds =
     let start_is = subst (λ (f : Folder). IsStart control (log_files f) start) same starts in
-    let finds_is : FindFails {T = FoundValue} (Err fault) ⊎ FindAnswers start (log_files folder) (Err fault) =
-    subst (λ (f : Folder). FindFails {T = FoundValue} (Err fault) ⊎ FindAnswers start (log_files f) (Err fault)) (same' ∙ same) finds in
+    let finds_is : FindFails {T = FoundValue} (Err fault) ⊎ FindAnswers start (log_files folder) (Finds start (log_files folder)) (IsNowhere start) (Err fault) =
+    subst (λ (f : Folder). FindFails {T = FoundValue} (Err fault) ⊎ FindAnswers start (log_files f) (Finds start (log_files f)) (IsNowhere start) (Err fault)) (same' ∙ same) finds in
     let begins : Begins folder start = record {
       found = control;
       finds = ⊎_elim (λ (fails : ControlFails (Ok control)). absurd fails) (λ (is : ControlAnswers (Ok control) folder). is) answers;

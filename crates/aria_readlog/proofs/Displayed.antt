@@ -79,7 +79,7 @@ pub shows_keeps : (old new : State) (text : List ℕ) (done : Bool) → Shows te
 shows_keeps old new text done shows = record { folder = shows.folder; images = shows.images; err = shows.err }
 
 pub answer_is : (folder : Folder) (found : FoundValue) (first : Lsn) (result : Result (Unit {0}) Fault) → IsLooked folder found first → IsEnd found.damage result → Fails result ⊎ Answers result folder
-answer_is folder found first result looked end = answer_of folder looked.start found result (begins_of folder found first looked) looked.finds looked.from end
+answer_is folder found first result looked end = answer_of folder looked.start found result (begins_of folder found first looked) looked.missing looked.finds looked.from end
 
 pub answer_only : (folder : Folder) (found : FoundValue) (first : Lsn) (result other : Result (Unit {0}) Fault) → IsLooked folder found first → IsEnd found.damage result
     → Answers other folder → Fails result ⊎ Agree other result

@@ -60,9 +60,9 @@ first_at k =
 
 -- ---- the log that was found is read from there on
 
-pub readable_of : (control : Found) (files : LogFiles) (start : Lsn) (found : FoundValue) → IsStart control files start → IsLsn start → Finds start files found → IsReadFrom start files found.log
-readable_of control files start found starts lsn finds =
-    let (k, first) = start_file control files start starts lsn finds.missing in
+pub readable_of : (control : Found) (files : LogFiles) (start : Lsn) (found : FoundValue) → IsStart control files start → IsLsn start → NoneMissing start files → Finds start files found → IsReadFrom start files found.log
+readable_of control files start found starts lsn missing finds =
+    let (k, first) = start_file control files start starts lsn missing in
     let n = 1024 * k in
     let base = base_at start k first in
     let same : finds.base ≡ 8176 * n = same_Some finds.base (8176 * n) (sym finds.base_is ∙ base) in

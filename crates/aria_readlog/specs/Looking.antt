@@ -10,7 +10,7 @@ use Rattle.aria_log.specs.declared.find.Found.{Found as FoundValue}
 use Rattle.aria_log.specs.Pieces.{Piece, LogFiles, log_files, pieces_of, IsFront}
 use Rattle.aria_log.specs.Groups.{lsn_at_place}
 use Rattle.aria_log.specs.Reading.{IsReadable}
-use Rattle.aria_log.specs.Finding.{start_of, base_of, Finds}
+use Rattle.aria_log.specs.Finding.{start_of, base_of, NoneMissing, Finds}
 use Rattle.aria_readlog.specs.Start.{IsStart}
 use Rattle.aria_readlog.specs.Display.{Answers, Agree, Fails, IsDamaged}
 
@@ -28,13 +28,14 @@ pub record IsReadFrom (start : Lsn) (files : LogFiles) (log : LogValue) : Type 0
 abbrev pub IsReadAs : Folder → Result Found Fault → Type 0
 IsReadAs folder result = (other : Result Found Fault) → ControlAnswers other folder → other ≡ result
 
--- the log was found, and is read from this byte on
+-- no file is missing, the log was found, and it is read from this byte on
 pub record IsLooked (folder : Folder) (found : FoundValue) (first : Lsn) : Type 0 where
   pub control : Found
   pub is : ControlAnswers (Ok control) folder
   pub only : IsReadAs folder (Ok control)
   pub start : Lsn
   pub starts : IsStart control (log_files folder) start
+  pub missing : NoneMissing start (log_files folder)
   pub finds : Finds start (log_files folder) found
   pub first_is : first ≡ start_of start
   pub from : IsReadFrom start (log_files folder) found.log
