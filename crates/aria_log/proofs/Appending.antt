@@ -9,6 +9,7 @@ use Rattle.aria_host.proofs.Moments.{OnlyNow, nothing_moves, one_after, implied}
 use Rattle.aria_log.specs.declared.log.Log.{Log as LogValue}
 use Rattle.aria_log.specs.Pieces.{Piece, LogFiles, log_files}
 use Rattle.aria_log.specs.Log.{LogMoments, joined, behind, HoldsRun, IsImage, IsStrict, IsWriting, Fills, IsAt, Wrote, Makes, Adds}
+use Rattle.aria_log.proofs.Counting.{not_done}
 use Rattle.aria_log.proofs.Writing.{full_are, joined_push, behind_push, run_is_image}
 
 -- what a crash now leaves of the log's files
@@ -33,11 +34,6 @@ wrote_after log a b c base whole parts held done full makes wrote = record {
   fills = wrote.fills;
   keeps = one_after a b c (makes_keep a b base whole parts held true full makes) wrote.keeps;
 }
-
--- what isn't done isn't done
-pub not_done : (b : Bool) → b ≡ false → IsTrue b → ⊥
-not_done true e done = absurd (cc)
-not_done false e done = absurd (cc)
 
 -- the file wasn't made, so nothing was written
 pub wrote_nothing : (log : LogValue) (a b : State) (base : ℕ) (whole : List Piece) (parts : List (List ℕ)) (held : List ℕ) (made done : Bool) → All (λ (bytes : List ℕ). length bytes ≡ 8176) parts → Makes a b base whole parts made → done ≡ false

@@ -1,6 +1,6 @@
 -- Numbers of pages and of files.
 use Rattle.std.proofs.Common.{◌≡◌, ◌==◌, ◌⊎◌, ℕ, ◌+◌, ◌*◌, ◌/◌, ◌%◌, ◌<◌, ◌≤◌, Bool, true, false, not, refl, arith}
-use Rattle.std.specs.Prelude.{min}
+use Rattle.std.specs.Prelude.{IsTrue, min}
 use Rattle.std.specs.Ordering.{nat_cmp, ord_min}
 use Rattle.std.proofs.lemmas.Bool.{eqb-true}
 
@@ -26,6 +26,11 @@ not_first k inside =
 
 pub is_first : (k : ℕ) → ((k + 1) % 1024 == 0) ≡ true → (k + 1) / 1024 ≡ k / 1024 + 1
 is_first k first = let e : (k + 1) % 1024 ≡ 0 = eqb-true ((k + 1) % 1024) 0 first in omega (arith, e)
+
+-- what isn't done isn't done
+pub not_done : (b : Bool) → b ≡ false → IsTrue b → ⊥
+not_done true e done = absurd (cc)
+not_done false e done = absurd (cc)
 
 pub not_true : (b : Bool) → not b ≡ true → b ≡ false
 not_true true e = absurd (cc)

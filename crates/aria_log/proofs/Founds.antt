@@ -20,8 +20,7 @@ use Rattle.aria_log.specs.Log.{Fills, IsBaseOf}
 use Rattle.aria_log.specs.Reading.{seen, IsReadable}
 use Rattle.aria_log.specs.Finding.{means_none, start_of, place_of, base_of, NoneMissing, IsLast, EndsFront, IsUndamaged, IsBrokenAt, IsDamageBehind, IsDamageFrom, Ends, IsFound, Finds, Answers, IsNowhere, Fails, HasFindCause}
 use Rattle.aria_log.proofs.LogPages.{read_is_valid}
-use Rattle.aria_log.proofs.Appending.{not_done}
-use Rattle.aria_log.proofs.Counting.{place_file, place_page}
+use Rattle.aria_log.proofs.Counting.{not_done, place_file, place_page}
 use Rattle.aria_log.proofs.Fronts.{next_of, stand_same, front_unique}
 
 -- ---- the base

@@ -7,37 +7,21 @@ use Rattle.std.proofs.lemmas.List.{length-drop, drop-drop, drop-take, drop_all, 
 use Rattle.std.proofs.lemmas.Option.{same_Some}
 use Rattle.aria_host.specs.State.{State}
 use Rattle.aria_host.proofs.Moments.{implied}
-use Rattle.aria_page.specs.Field.{◌>>=◌}
-use Rattle.aria_page.specs.Number.{number_of, number_at}
-use Rattle.aria_page.specs.Text.{bytes_at, counted_at}
-use Rattle.aria_page.proofs.Fields.{bind_some, guard_some}
 use Rattle.aria_record.specs.declared.record.Record.{Record}
-use Rattle.aria_record.specs.Reading.{read_content, read_group}
+use Rattle.aria_record.specs.Reading.{read_group}
 use Rattle.aria_log.specs.declared.log.Log.{Log as LogValue}
 use Rattle.aria_log.specs.Pieces.{Piece, Pieces, LogFiles, log_files, pieces_of, next_piece, Stand, IsFront, may_behind, is_full}
 use Rattle.aria_log.specs.Groups.{Logged, placed, groups_within, groups_at, run_rest, groups_of_runs, groups_from}
 use Rattle.aria_log.specs.Files.{HoldsLog, IsUsed, IsSoundLog, HoldsFrom}
 use Rattle.aria_log.specs.Log.{LogKeeps, HoldRun, HoldPart, file_of, behind, FilesStand, HoldsRun, IsThere, IsWriting, Fills, IsLog, IsOpened, HoldsAll}
 use Rattle.aria_log.proofs.LogPages.{read_is_valid}
+use Rattle.aria_log.proofs.GroupReads.{group_left}
 use Rattle.aria_log.proofs.GroupLists.{none_within, some_within, none_in_none}
 use Rattle.aria_log.proofs.Fronts.{next_of}
 use Rattle.aria_log.proofs.Images.{next_some}
 use Rattle.aria_log.proofs.Cutting.{piece_there}
 
 -- ---- groups in bytes
-
--- bytes that are read leave those behind them
-bytes_rest : (n : ℕ) (bytes : List ℕ) (x : List ℕ × List ℕ) → bytes_at n bytes ≡ Some x → (n ≤ length bytes) × (x.1 ≡ drop n bytes)
-unfolding bytes_at
-bytes_rest n bytes x e =
-    let g = guard_some (ltb (length bytes) n) (Some (take n bytes, drop n bytes)) x e in
-    (ltb-false _ _ g.0, ap (λ (y : List ℕ × List ℕ). y.1) (sym (same_Some (take n bytes, drop n bytes) x g.1)))
-
-number_rest : (n : ℕ) (bytes : List ℕ) (x : ℕ × List ℕ) → number_at n bytes ≡ Some x → (n ≤ length bytes) × (x.1 ≡ drop n bytes)
-unfolding number_at
-number_rest n bytes x e =
-    let g = guard_some (ltb (length bytes) n) (Some (number_of n bytes, drop n bytes)) x e in
-    (ltb-false _ _ g.0, ap (λ (y : ℕ × List ℕ). y.1) (sym (same_Some (number_of n bytes, drop n bytes) x g.1)))
 
 -- these are the bytes behind some others, of which there is one at least
 pub record IsBehind (bytes rest : List ℕ) : Type 0 where
@@ -48,21 +32,8 @@ pub record IsBehind (bytes rest : List ℕ) : Type 0 where
 
 -- a group that is read leaves the bytes behind it
 pub group_rest : (bytes : List ℕ) (x : List Record × List ℕ) → read_group bytes ≡ Some x → IsBehind bytes x.1
-unfolding read_group counted_at
 group_rest bytes x e =
-    let content = bind_some (counted_at 4 bytes) (λ content. read_content content.0 >>= (λ group. Some (group, content.1))) x e in
-    let group = bind_some (read_content content.0.0) (λ group. Some (group, content.0.1)) x content.2 in
-    let count = bind_some (number_at 4 bytes) (λ count. bytes_at count.0 count.1) content.0 content.1 in
-    let first = number_rest 4 bytes count.0 count.1 in
-    let second = bytes_rest count.0.0 count.0.1 content.0 count.2 in
-    let made : List Record × List ℕ = (group.0, content.0.1) in
-    let left : x.1 ≡ content.0.1 = ap (λ (y : List Record × List ℕ). y.1) (sym (same_Some made x group.2)) in
-    record {
-      count = 4 + count.0.0;
-      some = omega arith;
-      within = omega (arith, first.0, second.0, ap (λ (l : List ℕ). length l) first.1, length-drop 4 bytes);
-      rest_is = left ∙ second.1 ∙ ap (drop count.0.0) first.1 ∙ drop-drop count.0.0 4 bytes;
-    }
+    let left = group_left bytes x e in record { count = length bytes - length x.1; some = omega (arith, left.0); within = omega arith; rest_is = left.1 }
 
 -- the length of what stands behind
 pub behind_length : (bytes rest : List ℕ) (is : IsBehind bytes rest) → length rest + is.count ≡ length bytes

@@ -12,7 +12,6 @@ pub mod Appending
 pub mod Images
 pub mod Logs
 pub mod Syncing
-pub mod Unchanged
 pub mod Starting
 pub mod Cutting
 pub mod Blank
@@ -32,7 +31,6 @@ pub mod Steps
 pub mod PageCauses
 pub mod Looking
 pub mod FirstRun
-pub mod Looks
 pub mod FrontReads
 pub mod Damages
 pub mod Founds

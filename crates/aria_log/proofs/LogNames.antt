@@ -14,7 +14,7 @@ use Rattle.aria_host.specs.Calls.{Lists}
 use Rattle.aria_host.proofs.Files.{same_file-refl, same_file-true}
 use Rattle.aria_log.specs.Pieces.{LogFiles, log_files}
 use Rattle.aria_log.specs.Finding.{is_from, means_none, start_of, HasFrom, IsMissing, NoneMissing, IsLast}
-use Rattle.aria_log.proofs.Appending.{not_done}
+use Rattle.aria_log.proofs.Counting.{not_done}
 use Rattle.aria_log.proofs.PutPages.{none_isnt}
 
 -- ---- names

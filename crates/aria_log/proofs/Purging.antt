@@ -13,6 +13,7 @@ use Rattle.aria_host.specs.Steps.{MayMake}
 use Rattle.aria_host.specs.Calls.{Lists, HaveNames, Narrows, Removes}
 use Rattle.aria_host.proofs.Files.{with_file-same, with_file-other}
 use Rattle.aria_host.proofs.Moments.{OnlyNow, started, goes_on, joined, weakened}
+use Rattle.aria_log.proofs.Counting.{not_done}
 use Rattle.aria_log.specs.Purge.{is_log_below, IsWithout, IsPurged, AtPurge, Purges, number_from, IsLowest}
 
 -- ---- names
@@ -185,10 +186,6 @@ purged_at below low old d c left upto without = record { image = d; left = left;
 
 purged_upto : (low high : ℕ) (old : State) (c : Folder) → low ≤ high → IsPurged low old c → IsPurged high old c
 purged_upto low high old c le is = record { image = is.image; left = is.left; low = is.low; upto = omega (arith, is.upto, le); without = is.without }
-
-not_done : (b : Bool) → b ≡ false → IsTrue b → ⊥
-not_done true e finished = absurd (cc)
-not_done false e finished = absurd (cc)
 
 -- more files may be removed, but weren't
 purged_part : (low high : ℕ) (old new : State) (done failed : Bool) → low ≤ high → failed ≡ false → Purges low old new done → Purges high old new failed

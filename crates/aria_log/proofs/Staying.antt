@@ -44,6 +44,10 @@ others_leave mine old new apart is = record {
 pub narrows_leave : (old new : State) → Narrows old new → LeavesLog old new
 narrows_leave old new same = record { folder = ap log_files same.folder; images = λ c leaves. (c, same.no_more c leaves, refl) }
 
+-- the log's files are as they were
+pub same_files : (old new : State) → Unchanged old new → log_files new.folder ≡ log_files old.folder
+same_files old new same = ap log_files same.folder
+
 -- ---- the log
 
 -- a run that is written stays

@@ -11,7 +11,7 @@ use Rattle.aria_host.proofs.Moments.{OnlyNow, nothing_moves, one_look, one_after
 use Rattle.aria_log.specs.LogPage.{read_log_page}
 use Rattle.aria_log.specs.Pieces.{Piece, Pieces, LogFiles, log_files, pieces_of}
 use Rattle.aria_log.specs.Log.{LogMoments, HoldRun, behind, HoldsRun, IsThere, IsWriting, Synced, SyncedUpTo}
-use Rattle.aria_log.proofs.Counting.{below_or_same}
+use Rattle.aria_log.proofs.Counting.{below_or_same, not_done}
 use Rattle.aria_log.proofs.PutPages.{none_isnt}
 use Rattle.aria_log.proofs.Staying.{narrows_leave, writing_stays}
 
@@ -74,10 +74,6 @@ synced_failed start old new f base whole parts there done failed only so_far syn
       durable = λ finished. absurd (not_done failed is_failed finished);
       keeps = one_after start old new so_far.keeps next.1;
     }
-  where
-    not_done : (b : Bool) → b ≡ false → IsTrue b → ⊥
-    not_done true e finished = absurd (cc)
-    not_done false e finished = absurd (cc)
 
 -- pages that are the same hold the same run
 pub same_run : (a b : Pieces) (n : ℕ) (begins : Bool) (parts : List (List ℕ)) → ((k : ℕ) → n ≤ k → k < n + length parts → b k ≡ a k) → HoldRun a n begins parts → HoldRun b n begins parts

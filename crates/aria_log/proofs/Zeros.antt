@@ -14,6 +14,7 @@ use Rattle.aria_host.proofs.Moments.{OnlyNow, one_call, one_after, nothing_moves
 use Rattle.aria_log.specs.LogPage.{read_log_page}
 use Rattle.aria_log.specs.Pieces.{Piece, Pieces, LogFiles, log_files, pieces_of}
 use Rattle.aria_log.specs.Log.{LogMoments, HoldRun, HoldPart, file_of, behind, FilesStand, HoldsRun, IsThere, IsWriting, GoesAhead, Synced}
+use Rattle.aria_log.proofs.Counting.{not_done}
 use Rattle.aria_log.proofs.LogPages.{zero_reads}
 use Rattle.aria_log.proofs.PutPages.{MayPut, write_puts, pages_of, others_stay}
 use Rattle.aria_log.proofs.Writing.{run_same, run_same_pages, stand_ahead}
@@ -110,7 +111,3 @@ synced_ahead a b c base whole parts there done first second = record {
 -- room could not be made
 pub unsynced : (a b : State) (base : ℕ) (whole : List Piece) (parts : List (List ℕ)) (there done : Bool) → done ≡ false → LogMoments a b (HoldsRun base whole parts) → Synced a b base whole parts there done
 unsynced a b base whole parts there done failed keeps = record { writing = λ finished. absurd (not_done done failed finished); durable = λ finished. absurd (not_done done failed finished); keeps = keeps }
-  where
-    not_done : (x : Bool) → x ≡ false → IsTrue x → ⊥
-    not_done true e finished = absurd (cc)
-    not_done false e finished = absurd (cc)

@@ -12,14 +12,14 @@ use Rattle.aria_log.specs.Log.{IsBaseOf, place}
 -- ---- what stands in the log
 
 -- What stands at a place: a whole group, or the void rest of a run, which has so many bytes.
-pub data Found : Type 0 where
-  Whole : List Record → Found
-  Void : ℕ → Found
+pub data Standing : Type 0 where
+  Whole : List Record → Standing
+  Void : ℕ → Standing
 
 -- an entry of the log and the place of its first byte
 pub record Entry : Type 0 where
   pub at : ℕ
-  pub found : Found
+  pub found : Standing
 
 -- the void rest of a run, where it isn't empty
 abbrev pub void_rest : ℕ → List ℕ → List Entry

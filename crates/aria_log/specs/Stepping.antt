@@ -13,12 +13,12 @@ use Rattle.aria_log.specs.declared.step.Step.TheVariants.{Group, Rest, End}
 use Rattle.aria_log.specs.Pieces.{Piece, LogFiles, Stand}
 use Rattle.aria_log.specs.Groups.{Logged, lsn_at_place, run_rest}
 use Rattle.aria_log.specs.Log.{place}
-use Rattle.aria_log.specs.Reading.{Found, Whole, Void, Entry, entries_of_runs, entries_at, next_place, seen, loaded}
+use Rattle.aria_log.specs.Reading.{Standing, Whole, Void, Entry, entries_of_runs, entries_at, next_place, seen, loaded}
 
 -- ---- what a step tells
 
 -- this is the entry, with its place and that of what stands behind it
-pub record IsEntry (end : ℕ) (entry : Entry) (more : List Entry) (at after : Lsn) (found : Found) : Type 0 where
+pub record IsEntry (end : ℕ) (entry : Entry) (more : List Entry) (at after : Lsn) (found : Standing) : Type 0 where
   pub at_is : at ≡ lsn_at_place entry.at
   pub found_is : entry.found ≡ found
   pub after_is : after ≡ lsn_at_place (next_place end more)
@@ -34,7 +34,7 @@ IsStep end (entry ∷ more) (Rest at bytes after) = IsEntry end entry more at af
 
 -- ---- the groups among what stands in the log
 
-abbrev pub group_of : ℕ → Found → List Logged
+abbrev pub group_of : ℕ → Standing → List Logged
 group_of at (Whole group) = record { at = at; group = group } ∷ []
 group_of at (Void bytes) = []
 

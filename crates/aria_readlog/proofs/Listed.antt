@@ -15,7 +15,7 @@ use Rattle.aria_log.specs.declared.step.Step.TheVariants.{Group, Rest, End}
 use Rattle.aria_log.specs.declared.log.Log.{Log as LogValue}
 use Rattle.aria_log.specs.Log.{place}
 use Rattle.aria_log.specs.Pieces.{LogFiles, log_files}
-use Rattle.aria_log.specs.Reading.{Entry, Found, Whole, Void, next_place, StandsAt}
+use Rattle.aria_log.specs.Reading.{Entry, Standing, Whole, Void, next_place, StandsAt}
 use Rattle.aria_log.specs.Stepping.{IsStep}
 use Rattle.aria_readlog.specs.declared.choice.Choice.{Choice}
 use Rattle.aria_readlog.specs.declared.listing.Listing.{Listing}
@@ -99,7 +99,7 @@ lists_none old new same = subst (λ (l : Listing). Lists [] old l) (sym same) (r
     none false = sym (append-nil (string_bytes old.text))
 
 -- an entry that stands at this number is added
-lists_one : (old new : Listing) (entry : Entry) (lsn : Lsn) (found : Found) → lsn ≡ lsn_at_place entry.at → entry.found ≡ found
+lists_one : (old new : Listing) (entry : Entry) (lsn : Lsn) (found : Standing) → lsn ≡ lsn_at_place entry.at → entry.found ≡ found
     → string_bytes new.text ≡ string_bytes old.text ++ cond (is_within old.choice lsn && not old.choice.silent) (found_lines lsn found) []
     → new.groups ≡ old.groups + cond (is_within old.choice lsn) (cond (is_whole found) 1 0) 0
     → new.rests ≡ old.rests + cond (is_within old.choice lsn) (cond (not (is_whole found)) 1 0) 0
@@ -109,16 +109,16 @@ lists_one old new entry lsn found at is text groups rests choice =
     record {
       text = text ∙ ap (λ (l : List ℕ). string_bytes old.text ++ l)
           (ap (λ (x : Lsn). cond (is_within old.choice x && not old.choice.silent) (found_lines x found) []) at
-          ∙ ap (λ (x : Found). cond (is_asked old.choice entry && not old.choice.silent) (found_lines (lsn_at_place entry.at) x) []) found_is
+          ∙ ap (λ (x : Standing). cond (is_asked old.choice entry && not old.choice.silent) (found_lines (lsn_at_place entry.at) x) []) found_is
           ∙ sym (one_lines old.choice entry));
       choice = choice;
       groups = groups ∙ ap (λ (n : ℕ). old.groups + n)
           (ap (λ (x : Lsn). cond (is_within old.choice x) (cond (is_whole found) 1 0) 0) at
-          ∙ ap (λ (x : Found). cond (is_asked old.choice entry) (cond (is_whole x) 1 0) 0) found_is
+          ∙ ap (λ (x : Standing). cond (is_asked old.choice entry) (cond (is_whole x) 1 0) 0) found_is
           ∙ sym (one_group old.choice entry));
       rests = rests ∙ ap (λ (n : ℕ). old.rests + n)
           (ap (λ (x : Lsn). cond (is_within old.choice x) (cond (not (is_whole found)) 1 0) 0) at
-          ∙ ap (λ (x : Found). cond (is_asked old.choice entry) (cond (not (is_whole x)) 1 0) 0) found_is
+          ∙ ap (λ (x : Standing). cond (is_asked old.choice entry) (cond (not (is_whole x)) 1 0) 0) found_is
           ∙ sym (one_rest old.choice entry));
     }
 

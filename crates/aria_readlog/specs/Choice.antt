@@ -4,7 +4,7 @@ use Rattle.std.specs.List.{filter, flat_map}
 use Rattle.std.specs.Option.{option_map_or}
 use Rattle.aria_page.specs.declared.lsn.Lsn.{Lsn}
 use Rattle.aria_log.specs.Groups.{lsn_at_place}
-use Rattle.aria_log.specs.Reading.{Entry, Found, Whole, Void}
+use Rattle.aria_log.specs.Reading.{Entry, Standing, Whole, Void}
 use Rattle.aria_readlog.specs.declared.choice.Choice.{Choice}
 use Rattle.aria_readlog.specs.Line.{group_lines, rest_line, last_line}
 
@@ -21,12 +21,12 @@ abbrev pub is_asked : Choice → Entry → Bool
 is_asked choice entry = is_within choice (lsn_at_place entry.at)
 
 -- it is a whole group
-abbrev pub is_whole : Found → Bool
+abbrev pub is_whole : Standing → Bool
 is_whole (Whole group) = true
 is_whole (Void bytes) = false
 
 -- the lines of what stands at this number
-abbrev pub found_lines : Lsn → Found → List ℕ
+abbrev pub found_lines : Lsn → Standing → List ℕ
 found_lines lsn (Whole group) = group_lines lsn group
 found_lines lsn (Void bytes) = rest_line lsn bytes
 

@@ -72,18 +72,18 @@ fn spoil(log: &mut Log, host: &mut MemHost, count: usize) -> Result<(), Fault>
 
 // What a walk over a log finds: how many groups, how many void bytes, and where it ends.
 #[derive(Drop)]
-struct Found {
+struct Walked {
     groups: u64,
     void: u64,
     end: Lsn,
 }
 
-fn walk(alloc: Global, log: &Log, host: &mut MemHost) -> Result<Found, Fault>
+fn walk(alloc: Global, log: &Log, host: &mut MemHost) -> Result<Walked, Fault>
     requires { (front : List Piece) × IsReadable log.now (log_files (mem_state host.old).folder) (8176 * 1024) front × (length front ≡ 0 → log.now.used ≡ 0) }
 {
     let _file = FileName::Log(1);
     let mut reader = Reader::new();
-    let mut found = Found {
+    let mut found = Walked {
         groups: 0,
         void: 0,
         end: START,

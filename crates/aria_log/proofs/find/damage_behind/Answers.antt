@@ -1,6 +1,6 @@
 use Rattle.std.proofs.Common.{arith}
 use Rattle.aria_log.specs.Pieces.{log_files}
-use Rattle.aria_log.proofs.Appending.{not_done}
+use Rattle.aria_log.proofs.Counting.{not_done}
 use Rattle.aria_log.proofs.Damages.{damage_found}
 use Rattle.aria_log.proofs.find.damage_behind.Goals as goal
 

@@ -2,8 +2,9 @@ use Rattle.std.proofs.Common.{◌∙◌, ◌+◌, ◌/◌, ap, sym, subst, arith
 use Rattle.std.specs.Prelude.{MatchOption}
 use Rattle.aria_log.specs.Pieces.{LogFiles, log_files, pieces_of}
 use Rattle.aria_log.specs.Finding.{EndsFront, IsNoted, IsUndamaged, IsDamageBehind}
-use Rattle.aria_log.proofs.Appending.{not_done}
-use Rattle.aria_log.proofs.Looks.{unchanged_after, same_files}
+use Rattle.aria_log.proofs.Counting.{not_done}
+use Rattle.aria_host.proofs.Moments.{unchanged_after}
+use Rattle.aria_log.proofs.Staying.{same_files}
 use Rattle.aria_log.proofs.Damages.{end_apart}
 use Rattle.aria_log.proofs.Founds.{ends_at, finds_inside, finds_outside}
 use Rattle.aria_log.proofs.find.find_from.Goals as goal

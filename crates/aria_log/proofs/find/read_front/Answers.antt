@@ -4,7 +4,8 @@ use Rattle.aria_log.specs.Reading.{IsReader, loaded}
 use Rattle.aria_log.specs.Finding.{IsNoted}
 use Rattle.aria_log.proofs.Damages.{noted_none}
 use Rattle.aria_log.proofs.FrontReads.{IsReadTo, read_none, read_more, read_invalid, read_apart, never_all, loaded_some, loaded_none}
-use Rattle.aria_log.proofs.Looks.{unchanged_now, unchanged_after, same_files}
+use Rattle.aria_host.proofs.Moments.{unchanged_now, unchanged_after}
+use Rattle.aria_log.proofs.Staying.{same_files}
 use Rattle.aria_log.proofs.find.read_front.Goals as goal
 
 pub returns-then-not-branch-clause-end : goal.returns-then-not-branch-clause-end

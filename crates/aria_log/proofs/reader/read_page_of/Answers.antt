@@ -1,7 +1,7 @@
 use Rattle.std.proofs.Common.{◌≡◌, inl, inr, arith, refl}
 use Rattle.aria_page.specs.Number.{number_of}
 use Rattle.std.proofs.Common.{drop}
-use Rattle.aria_log.proofs.Appending.{not_done}
+use Rattle.aria_log.proofs.Counting.{not_done}
 use Rattle.aria_log.proofs.PageReads.{high_reads, fields_read, fields_other, counts_are, says_too_many}
 use Rattle.aria_log.proofs.reader.read_page_of.Goals as goal
 use Rattle.aria_log.proofs.reader.read_page_of.Goals.{then-used-lt1-via-then-used-lt1, then-used-lt1-via-else-used-lt1+then-used-gt-BODY_BYTES}

@@ -1,7 +1,7 @@
 use Rattle.std.proofs.Common.{◌≡◌, ◌∙◌, ◌+◌, ◌*◌, ◌/◌, ◌%◌, ◌++◌, ℕ, List, length, inl, inr, sym, ap, subst, arith, append_assoc, length-append}
 use Rattle.aria_log.specs.Pieces.{log_files}
 use Rattle.aria_log.specs.Stepping.{are_enough, ReadsOn}
-use Rattle.aria_log.proofs.Unchanged.{unchanged_after}
+use Rattle.aria_host.proofs.Moments.{unchanged_after}
 use Rattle.aria_log.proofs.Looking.{reader_at, left_at}
 use Rattle.aria_log.proofs.RunReads.{ends_there, reads_on, page_within}
 use Rattle.aria_log.proofs.log.Log.gather.Goals as goal

@@ -2,7 +2,7 @@ use Rattle.std.proofs.Common.{◌∙◌, ◌/◌, ℕ, IsTrue, false, refl, subs
 use Rattle.std.specs.Prelude.{◌↔◌}
 use Rattle.aria_log.specs.Pieces.{log_files}
 use Rattle.aria_log.specs.Log.{IsBlankFrom}
-use Rattle.aria_log.proofs.Unchanged.{unchanged_now, unchanged_after}
+use Rattle.aria_host.proofs.Moments.{unchanged_now, unchanged_after}
 use Rattle.aria_log.proofs.Blank.{blank_more, not_blank, read_there, read_page}
 use Rattle.aria_log.proofs.log.Log.is_blank.Goals as goal
 

@@ -5,7 +5,7 @@ use Rattle.aria_host.specs.Calls.{Writes}
 use Rattle.aria_log.specs.LogPage.{read_log_page}
 use Rattle.aria_log.proofs.Filled.{written_reads, zero_fills}
 use Rattle.aria_log.proofs.Writing.{write_step, present_file, begins_test, begins_after}
-use Rattle.aria_log.proofs.Appending.{not_done}
+use Rattle.aria_log.proofs.Counting.{not_done}
 use Rattle.aria_log.proofs.log.Log.put_page.Goals as goal
 
 pub write_page-requires-clause-there : goal.write_page-requires-clause-there

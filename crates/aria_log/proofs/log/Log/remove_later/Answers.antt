@@ -1,6 +1,6 @@
 use Rattle.std.proofs.Common.{◌∙◌, refl, arith, is_ok, ap}
 use Rattle.std.proofs.lemmas.Result.{err_from_is_err_and}
-use Rattle.aria_log.proofs.Appending.{not_done}
+use Rattle.aria_log.proofs.Counting.{not_done}
 use Rattle.aria_log.proofs.Cutting.{opened_lower, starts_none, starts_more, last_there, removed}
 use Rattle.aria_log.proofs.log.Log.remove_later.Goals as goal
 

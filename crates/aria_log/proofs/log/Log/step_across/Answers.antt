@@ -1,7 +1,7 @@
 use Rattle.std.proofs.Common.{◌≡◌, ◌+◌, ◌++◌, ℕ, List, length, refl, sym, ap, arith, subst}
 use Rattle.aria_log.specs.Pieces.{Piece, log_files}
 use Rattle.aria_log.specs.Stepping.{IsLeft, ReadsOn}
-use Rattle.aria_log.proofs.Unchanged.{unchanged_after}
+use Rattle.aria_host.proofs.Moments.{unchanged_after}
 use Rattle.aria_log.proofs.Looking.{left_at, reads_at}
 use Rattle.aria_log.proofs.Steps.{across, none_on}
 use Rattle.aria_log.proofs.log.Log.step_across.Goals as goal

@@ -3,7 +3,7 @@ use Rattle.aria_host.specs.Folder.{Folder}
 use Rattle.aria_host.specs.MemHost.{mem_state}
 use Rattle.aria_log.specs.Pieces.{log_files}
 use Rattle.aria_log.specs.Reading.{IsReader, StandsAt}
-use Rattle.aria_log.proofs.Unchanged.{unchanged_after}
+use Rattle.aria_host.proofs.Moments.{unchanged_after}
 use Rattle.aria_log.proofs.tests.crashes.count_groups.Goals as goal
 
 pub loop-nth-preserved : goal.loop-nth-preserved

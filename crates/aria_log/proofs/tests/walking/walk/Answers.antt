@@ -1,6 +1,6 @@
 use Rattle.std.proofs.Common.{◌≡◌, refl, ◌∙◌, ◌*◌, sym, ap}
 use Rattle.aria_host.specs.MemHost.{mem_state}
-use Rattle.aria_log.specs.declared.tests.walking.Found.{Found}
+use Rattle.aria_log.specs.declared.tests.walking.Walked.{Walked}
 use Rattle.aria_log.specs.Pieces.{log_files}
 use Rattle.aria_log.proofs.Looking.{reader_at}
 use Rattle.aria_log.proofs.Readable.{StandsBehind, stands_first, behind_group, behind_rest, behind_at}
@@ -32,8 +32,8 @@ loop-nth-preserved c =
       reader = reader_at c.next.new.reader old new (sym same) (c.in_ok-after.ensures.reader refl);
       stands = elim c.match-branch-2.branch [
         | in-Group w ↦
-            behind_at c.args.log.now old new _ _ (sym same) (sym (ap (λ (f : Found). f.end) w.found-is)) (behind_group c.args.log.now (log_files old.folder) was.at was.before was.more _ _ _ was.stands (rw w.in-Group.is at step))
+            behind_at c.args.log.now old new _ _ (sym same) (sym (ap (λ (f : Walked). f.end) w.found-is)) (behind_group c.args.log.now (log_files old.folder) was.at was.before was.more _ _ _ was.stands (rw w.in-Group.is at step))
         | in-Rest w ↦
-            behind_at c.args.log.now old new _ _ (sym same) (sym (ap (λ (f : Found). f.end) w.found-is)) (behind_rest c.args.log.now (log_files old.folder) was.at was.before was.more _ _ _ was.stands (rw w.in-Rest.is at step))
+            behind_at c.args.log.now old new _ _ (sym same) (sym (ap (λ (f : Walked). f.end) w.found-is)) (behind_rest c.args.log.now (log_files old.folder) was.at was.before was.more _ _ _ was.stands (rw w.in-Rest.is at step))
       ];
     }
