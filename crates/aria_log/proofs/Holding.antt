@@ -1,13 +1,18 @@
 -- What each image of a running log holds, from its base on and from later ones.
-use Rattle.std.proofs.Common.{◌≡◌, ℕ, ◌+◌, ◌-◌, ◌*◌, ◌/◌, ◌<◌, true, List, [], ◌∷◌, ◌++◌, length, drop, sym, ◌∙◌, ap, subst, arith}
+use Rattle.std.proofs.Common.{◌≡◌, ℕ, ◌+◌, ◌-◌, ◌*◌, ◌/◌, ◌<◌, Bool, true, false, List, [], ◌∷◌, ◌++◌, length, drop, sym, ◌∙◌, ap, subst, arith}
 use Rattle.std.proofs.Math.Seq.{drop-append-add}
+use Rattle.aria_host.specs.declared.file_name.FileName.{FileName}
+use Rattle.aria_host.specs.declared.file_name.FileName.TheVariants.{Log}
 use Rattle.aria_host.specs.Folder.{Folder}
+use Rattle.aria_host.specs.Moments.{Left, Moments}
 use Rattle.aria_host.specs.State.{State}
 use Rattle.aria_log.specs.declared.log.Log.{Log as LogValue}
 use Rattle.aria_log.specs.Pieces.{Piece, LogFiles, log_files, pieces_of}
 use Rattle.aria_log.specs.Groups.{Logged, placed, groups_bytes, groups_from}
 use Rattle.aria_log.specs.Files.{HoldsFrom}
 use Rattle.aria_log.specs.Log.{HoldRun, HoldPart, FilesStand, HoldsRun, IsThere, IsWriting, Fills, IsLog, file_of, behind}
+use Rattle.aria_host.proofs.Moments.{weakened}
+use Rattle.aria_log.proofs.Staying.{same_log}
 use Rattle.aria_log.proofs.Appending.{image_now}
 use Rattle.aria_log.proofs.Cutting.{no_groups}
 use Rattle.aria_log.proofs.Images.{image_from}
@@ -22,6 +27,20 @@ log_holds log s base groups forced is c leaves =
 pub log_holds_later : (log : LogValue) (s : State) (base i forced : ℕ) (groups : List Logged) (g : Logged) (rest : List Logged) → IsLog log s base groups forced → drop i groups ≡ g ∷ rest → i < forced → (c : Folder) → s.may_leave c
     → HoldsFrom g.at (g ∷ rest) (forced - i) (log_files c)
 log_holds_later log s base i forced groups g rest is at low c leaves = later_from (log_files c) base i forced groups g rest (log_holds log s base groups forced is c leaves) at low
+
+-- at each moment of calls that touch some other files alone
+pub moments_hold : {mine : FileName → Bool} {P : Folder → Type 0} (log : LogValue) (old new : State) (base : ℕ) (groups : List Logged) (forced : ℕ) → ((n : ℕ) → mine (Log n) ≡ false) → IsLog log old base groups forced → Moments mine old new P
+    → Moments mine old new (λ c. P c × HoldsFrom base groups forced (log_files c))
+moments_hold {mine} {P} log old new base groups forced apart is run = record {
+  moments = weakened old new (Left mine old P) (Left mine old (λ c. P c × HoldsFrom base groups forced (log_files c))) run.moments (λ c told left.
+      let (d, was, same) = left.others in
+      record {
+        has = (left.has, subst (λ (f : LogFiles). HoldsFrom base groups forced f) (sym (same_log mine d c apart same)) (log_holds log old base groups forced is d was));
+        others = left.others;
+        told_is = left.told_is;
+      });
+  others = run.others;
+}
 
 -- ---- from the first page on that isn't forced
 

@@ -30,15 +30,16 @@ leaves_after a b c first second = record {
   images = λ f leaves. let (d, was, same) = second.images f leaves in let (e, before, also) = first.images d was in (e, before, same ∙ also);
 }
 
+-- folders that differ in other files have the same log
+pub same_log : (mine : FileName → Bool) (d c : Folder) → ((n : ℕ) → mine (Log n) ≡ false) → SameBut mine d c → log_files c ≡ log_files d
+same_log mine d c apart same = λ i n. same (Log n) (apart n) i
+
 -- calls that touch some other files alone
 pub others_leave : (mine : FileName → Bool) (old new : State) → ((n : ℕ) → mine (Log n) ≡ false) → LeavesOthers mine old new → LeavesLog old new
 others_leave mine old new apart is = record {
-  folder = same old.folder new.folder is.folder;
-  images = λ c leaves. let (d, was, others) = is.images c leaves in (d, was, same d c others);
+  folder = same_log mine old.folder new.folder apart is.folder;
+  images = λ c leaves. let (d, was, others) = is.images c leaves in (d, was, same_log mine d c apart others);
 }
-  where
-    same : (d c : Folder) → SameBut mine d c → log_files c ≡ log_files d
-    same d c others = λ i n. others (Log n) (apart n) i
 
 -- calls that change nothing, but that a crash may leave less
 pub narrows_leave : (old new : State) → Narrows old new → LeavesLog old new

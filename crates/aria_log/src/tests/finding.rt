@@ -200,6 +200,7 @@ fn begin_again(alloc: Global, host: &mut MemHost) -> Result<Log, Fault>
 // The log goes on behind what was forced, and what wasn't is lost.
 #[test]
 fn a_log_goes_on_where_it_was_forced(rt: HostRuntime) -> Result<(), Fail> {
+    let _file = FileName::Log(1);
     let alloc = rt.alloc();
     let mut host = MemHost::new(alloc);
     let mut log = begin_again(alloc, &mut host)?;
