@@ -6,7 +6,7 @@ use Rattle.aria_page.specs.declared.lsn.Lsn.{Lsn}
 use Rattle.aria_host.specs.State.{State}
 use Rattle.aria_log.specs.declared.log.Log.{Log as LogValue}
 use Rattle.aria_log.specs.Pieces.{log_files}
-use Rattle.aria_log.specs.Groups.{Logged, lsn_at_place}
+use Rattle.aria_record.specs.Logged.{Logged, lsn_at_place}
 use Rattle.aria_log.specs.Log.{IsOpened}
 use Rattle.aria_log.specs.Reading.{Entry, entries_from, StandsAt}
 use Rattle.aria_log.specs.Finding.{means_none, start_of, place_of, base_of}

@@ -15,7 +15,7 @@ use Rattle.aria_host.specs.Seen.{page_or_zero}
 use Rattle.aria_log.specs.declared.log.Log.{Log as LogValue}
 use Rattle.aria_log.specs.LogPage.{read_log_page}
 use Rattle.aria_log.specs.Pieces.{LogFiles, log_files, pieces_of}
-use Rattle.aria_log.specs.Groups.{Logged}
+use Rattle.aria_record.specs.Logged.{Logged}
 use Rattle.aria_log.specs.Log.{IsThere, IsOpened, EndsAt, IsBlankFrom, EndsFile, IsEnded, KeepsRoom}
 use Rattle.aria_log.proofs.Counting.{below_or_same}
 use Rattle.aria_log.proofs.Staying.{look_opened}

@@ -20,7 +20,8 @@ use Rattle.aria_host.proofs.Moments.{OnlyNow, nothing_moves, one_call, one_look,
 use Rattle.aria_log.specs.declared.log.Log.{Log as LogValue}
 use Rattle.aria_log.specs.LogPage.{log_body, read_log_page}
 use Rattle.aria_log.specs.Pieces.{Piece, Pieces, LogFiles, log_files, pieces_of, Stand, is_full}
-use Rattle.aria_log.specs.Groups.{Logged, groups_from}
+use Rattle.aria_record.specs.Logged.{Logged}
+use Rattle.aria_log.specs.Groups.{groups_from}
 use Rattle.aria_log.specs.Files.{IsSoundLog}
 use Rattle.aria_log.specs.Log.{LogMoments, file_of, behind, FilesStand, HoldsRun, IsThere, IsLog, AreAtRest, IsOpened, HoldsAll, Starts, EndsAt, HasNoLog, Cutting}
 use Rattle.aria_log.proofs.LogPages.{zero_reads}

@@ -4,7 +4,8 @@ use Rattle.std.specs.Option.{option_map_or}
 use Rattle.aria_record.specs.declared.record.Record.{Record}
 use Rattle.aria_record.specs.Reading.{read_group}
 use Rattle.aria_log.specs.Pieces.{Piece}
-use Rattle.aria_log.specs.Groups.{Logged, groups_within, groups_at, run_rest, groups_of_runs, groups_from}
+use Rattle.aria_record.specs.Logged.{Logged}
+use Rattle.aria_log.specs.Groups.{groups_within, groups_at, run_rest, groups_of_runs, groups_from}
 use Rattle.aria_log.specs.Reading.{Standing, Whole, Void, Entry, void_rest, entries_within, entries_at, entries_of_runs, entries_from}
 use Rattle.aria_log.specs.Stepping.{group_of, groups_of}
 use Rattle.aria_log.proofs.GroupReads.{group_left, none_of_none}

@@ -5,7 +5,8 @@ use Rattle.std.proofs.lemmas.List.{append-nil}
 use Rattle.std.proofs.lemmas.Bool.{eq-eqb}
 use Rattle.std.proofs.lemmas.Option.{same_Some}
 use Rattle.aria_log.specs.Pieces.{Piece, Pieces, next_piece, Stand, IsFront, may_behind, is_full}
-use Rattle.aria_log.specs.Groups.{Logged, groups_at, run_rest, groups_of_runs, groups_from}
+use Rattle.aria_record.specs.Logged.{Logged}
+use Rattle.aria_log.specs.Groups.{groups_at, run_rest, groups_of_runs, groups_from}
 use Rattle.aria_log.specs.Log.{HoldPart, AreFull, joined}
 use Rattle.aria_log.proofs.Counting.{below_or_same}
 use Rattle.aria_log.proofs.GroupLists.{none_found}

@@ -16,7 +16,8 @@ use Rattle.aria_record.specs.Groups.{IsGroup}
 use Rattle.aria_record.specs.Spelled.{content_bytes, group_bytes}
 use Rattle.aria_record.specs.Reading.{read_content, read_group}
 use Rattle.aria_record.proofs.Records.{group_again}
-use Rattle.aria_log.specs.Groups.{Logged, placed, groups_bytes, groups_within, groups_at}
+use Rattle.aria_record.specs.Logged.{Logged}
+use Rattle.aria_log.specs.Groups.{placed, groups_bytes, groups_within, groups_at}
 
 -- the length of a stored group
 pub length-group_bytes : (group : List Record) → length (group_bytes group) ≡ 4 + length (content_bytes group)

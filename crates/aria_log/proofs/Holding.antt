@@ -8,7 +8,8 @@ use Rattle.aria_host.specs.Moments.{Left, Moments}
 use Rattle.aria_host.specs.State.{State}
 use Rattle.aria_log.specs.declared.log.Log.{Log as LogValue}
 use Rattle.aria_log.specs.Pieces.{Piece, LogFiles, log_files, pieces_of}
-use Rattle.aria_log.specs.Groups.{Logged, placed, groups_bytes, groups_from}
+use Rattle.aria_record.specs.Logged.{Logged}
+use Rattle.aria_log.specs.Groups.{placed, groups_bytes, groups_from}
 use Rattle.aria_log.specs.Files.{HoldsFrom}
 use Rattle.aria_log.specs.Log.{HoldRun, HoldPart, FilesStand, HoldsRun, IsThere, IsWriting, Fills, IsLog, file_of, behind}
 use Rattle.aria_host.proofs.Moments.{weakened}

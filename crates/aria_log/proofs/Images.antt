@@ -12,7 +12,8 @@ use Rattle.aria_record.specs.declared.record.Record.{Record}
 use Rattle.aria_record.specs.Groups.{IsGroup}
 use Rattle.aria_record.specs.Spelled.{group_bytes}
 use Rattle.aria_log.specs.Pieces.{Piece, Pieces, LogFiles, pieces_of, next_piece, Stand, may_behind}
-use Rattle.aria_log.specs.Groups.{Logged, placed, groups_bytes, groups_at, groups_from}
+use Rattle.aria_record.specs.Logged.{Logged}
+use Rattle.aria_log.specs.Groups.{placed, groups_bytes, groups_at, groups_from}
 use Rattle.aria_log.specs.Files.{HoldsLog, IsBase, IsSoundLog, HoldsFrom}
 use Rattle.aria_log.specs.Log.{AreFull, joined, file_of, behind, FilesStand, HoldsRun, IsImage, IsStrict, IsBaseOf}
 use Rattle.aria_log.proofs.Counting.{below_or_same}

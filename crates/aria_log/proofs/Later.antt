@@ -11,7 +11,8 @@ use Rattle.aria_record.specs.declared.record.Record.{Record}
 use Rattle.aria_record.specs.Reading.{read_group}
 use Rattle.aria_log.specs.declared.log.Log.{Log as LogValue}
 use Rattle.aria_log.specs.Pieces.{Piece, Pieces, LogFiles, log_files, pieces_of, next_piece, Stand, IsFront, may_behind, is_full}
-use Rattle.aria_log.specs.Groups.{Logged, placed, groups_within, groups_at, run_rest, groups_of_runs, groups_from}
+use Rattle.aria_record.specs.Logged.{Logged}
+use Rattle.aria_log.specs.Groups.{placed, groups_within, groups_at, run_rest, groups_of_runs, groups_from}
 use Rattle.aria_log.specs.Files.{HoldsLog, IsUsed, IsSoundLog, HoldsFrom}
 use Rattle.aria_log.specs.Log.{LogKeeps, HoldRun, HoldPart, file_of, behind, FilesStand, HoldsRun, IsThere, IsWriting, Fills, IsLog, IsOpened, HoldsAll}
 use Rattle.aria_log.proofs.LogPages.{read_is_valid}

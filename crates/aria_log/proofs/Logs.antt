@@ -11,7 +11,8 @@ use Rattle.aria_host.specs.State.{State}
 use Rattle.aria_host.proofs.Moments.{OnlyNow, nothing_moves, one_after, implied}
 use Rattle.aria_log.specs.declared.log.Log.{Log as LogValue}
 use Rattle.aria_log.specs.Pieces.{Piece, Pieces, LogFiles, log_files, pieces_of, Stand, may_behind}
-use Rattle.aria_log.specs.Groups.{Logged, placed, groups_bytes, groups_at, groups_from}
+use Rattle.aria_record.specs.Logged.{Logged}
+use Rattle.aria_log.specs.Groups.{placed, groups_bytes, groups_at, groups_from}
 use Rattle.aria_log.specs.Files.{HoldsFrom}
 use Rattle.aria_log.specs.Log.{LogMoments, LogKeeps, HoldRun, AreFull, joined, file_of, behind, FilesStand, HoldsRun, IsImage, IsStrict, IsThere, IsAt, IsLog, IsBaseOf, place, Wrote, Synced}
 use Rattle.aria_log.proofs.GroupLists.{all_found, length-group_bytes}

@@ -12,7 +12,8 @@ use Rattle.aria_host.specs.Calls.{HaveNames}
 use Rattle.aria_log.specs.declared.log.Log.{Log as LogValue}
 use Rattle.aria_log.specs.declared.find.Found.{Found as FoundValue}
 use Rattle.aria_log.specs.Pieces.{Piece, LogFiles, log_files, pieces_of, Stand, IsFront}
-use Rattle.aria_log.specs.Groups.{Logged, groups_from}
+use Rattle.aria_record.specs.Logged.{Logged}
+use Rattle.aria_log.specs.Groups.{groups_from}
 use Rattle.aria_log.specs.Files.{IsBase, IsSoundLog}
 use Rattle.aria_log.specs.Log.{file_of, AreAtRest, HasNoLog, IsOpened}
 use Rattle.aria_log.specs.Finding.{means_none, start_of, IsLast, NoneMissing, IsDamageFrom, IsDamage, Ends, IsFound, Finds, Opens, Fails, Answers, IsWhole}

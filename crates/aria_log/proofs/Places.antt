@@ -10,7 +10,8 @@ use Rattle.aria_record.specs.Spelled.{group_bytes}
 use Rattle.aria_record.specs.Reading.{read_group}
 use Rattle.aria_log.specs.declared.log.Log.{Log as LogValue}
 use Rattle.aria_log.specs.Pieces.{Piece, Pieces, LogFiles, log_files, pieces_of, Stand, is_full}
-use Rattle.aria_log.specs.Groups.{Logged, placed, groups_bytes, groups_within, groups_at, run_rest, groups_of_runs, groups_from, lsn_at_place}
+use Rattle.aria_record.specs.Logged.{Logged, lsn_at_place}
+use Rattle.aria_log.specs.Groups.{placed, groups_bytes, groups_within, groups_at, run_rest, groups_of_runs, groups_from}
 use Rattle.aria_log.specs.Log.{IsBaseOf, IsLog, place}
 use Rattle.aria_log.proofs.GroupLists.{none_within, some_within, length-group_bytes}
 use Rattle.aria_log.proofs.Images.{next_some}

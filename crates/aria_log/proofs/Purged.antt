@@ -10,7 +10,8 @@ use Rattle.aria_host.specs.State.{State}
 use Rattle.aria_host.proofs.Moments.{weakened}
 use Rattle.aria_log.specs.declared.log.Log.{Log as LogValue}
 use Rattle.aria_log.specs.Pieces.{Piece, Pieces, LogFiles, log_files, pieces_of}
-use Rattle.aria_log.specs.Groups.{Logged, groups_bytes}
+use Rattle.aria_record.specs.Logged.{Logged}
+use Rattle.aria_log.specs.Groups.{groups_bytes}
 use Rattle.aria_log.specs.Log.{LogKeeps, HoldPart, file_of, behind, FilesStand, HoldsRun, IsImage, IsThere, IsLog}
 use Rattle.aria_log.specs.Purge.{IsWithout, IsPurged, AtPurge, Purges}
 use Rattle.aria_log.proofs.Fronts.{stand_same}

@@ -16,7 +16,8 @@ use Rattle.aria_log.specs.declared.log.Log.{Log as LogValue}
 use Rattle.aria_log.specs.declared.step.Step.TheVariants.{Group, Rest}
 use Rattle.aria_log.specs.LogPage.{log_body}
 use Rattle.aria_log.specs.Pieces.{Piece, Pieces, LogFiles, log_files, pieces_of, Stand, may_behind}
-use Rattle.aria_log.specs.Groups.{Logged, placed, groups_bytes, run_rest, groups_from, lsn_at_place}
+use Rattle.aria_record.specs.Logged.{Logged, lsn_at_place}
+use Rattle.aria_log.specs.Groups.{placed, groups_bytes, run_rest, groups_from}
 use Rattle.aria_log.specs.Log.{HoldRun, AreFull, joined, behind, Fills, IsAt, IsBaseOf, IsLog, IsOpened, place}
 use Rattle.aria_log.specs.Reading.{Whole, Entry, entries_at, entries_of_runs, entries_from, next_place, seen, IsReadable, StandsAt}
 use Rattle.aria_log.specs.Stepping.{filled, groups_of, end_page, IsStep}

@@ -15,7 +15,7 @@ use Rattle.aria_host.proofs.Moments.{OnlyNow, one_call}
 use Rattle.aria_log.specs.declared.log.Log.{Log as LogValue}
 use Rattle.aria_log.specs.LogPage.{read_log_page}
 use Rattle.aria_log.specs.Pieces.{Piece, LogFiles, log_files, pieces_of, Stand, IsFront, may_behind}
-use Rattle.aria_log.specs.Groups.{Logged}
+use Rattle.aria_record.specs.Logged.{Logged}
 use Rattle.aria_log.specs.Files.{IsSoundLog}
 use Rattle.aria_log.specs.Log.{file_of, IsBaseOf, AreAtRest, IsOpened, HoldsAll, Starts}
 use Rattle.aria_log.proofs.LogPages.{zero_reads}

@@ -10,7 +10,7 @@ use Rattle.aria_host.specs.State.{State}
 use Rattle.aria_host.proofs.Moments.{looks}
 use Rattle.aria_log.specs.declared.log.Log.{Log as LogValue}
 use Rattle.aria_log.specs.Pieces.{Piece, LogFiles, log_files, pieces_of, IsFront}
-use Rattle.aria_log.specs.Groups.{Logged}
+use Rattle.aria_record.specs.Logged.{Logged}
 use Rattle.aria_log.specs.Files.{IsSoundLog}
 use Rattle.aria_log.specs.Log.{HoldRun, HoldsRun, IsThere, IsWriting, IsLog, IsOpened, behind}
 

@@ -9,7 +9,8 @@ use Rattle.aria_log.specs.declared.log.Log.{Log as LogValue}
 use Rattle.aria_log.specs.declared.step.Step.{Step}
 use Rattle.aria_log.specs.declared.step.Step.TheVariants.{Group, Rest, End}
 use Rattle.aria_log.specs.Pieces.{Piece, LogFiles, Stand, is_full}
-use Rattle.aria_log.specs.Groups.{lsn_at_place, run_rest}
+use Rattle.aria_record.specs.Logged.{lsn_at_place}
+use Rattle.aria_log.specs.Groups.{run_rest}
 use Rattle.aria_log.specs.Log.{place}
 use Rattle.aria_log.specs.Reading.{Whole, Void, Entry, void_rest, entries_at, entries_of_runs, entries_from, next_place, seen, IsReadable, StandsAt}
 use Rattle.aria_log.specs.Stepping.{IsEntry, IsStep, page_behind, end_page, IsLeft, EndsRun, ReadsOn, are_enough, StandsIn}

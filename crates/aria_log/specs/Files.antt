@@ -2,7 +2,8 @@
 use Rattle.std.specs.Prelude.{◌≡◌, ◌⊎◌, ℕ, ◌+◌, ◌/◌, ◌%◌, ◌^◌, ◌<◌, ◌≤◌, true, false, Some, IsSome, List, length, take}
 use Rattle.std.specs.Option.{option_map_or}
 use Rattle.aria_log.specs.Pieces.{Piece, Pieces, LogFiles, pieces_of, IsFront}
-use Rattle.aria_log.specs.Groups.{Logged, groups_from}
+use Rattle.aria_record.specs.Logged.{Logged}
+use Rattle.aria_log.specs.Groups.{groups_from}
 
 -- The log: from this base on the files hold these groups, and the log ends before this page.
 pub record HoldsLog (files : LogFiles) (base : ℕ) (groups : List Logged) (end : ℕ) : Type 0 where

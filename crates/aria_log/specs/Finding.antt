@@ -13,7 +13,7 @@ use Rattle.aria_log.specs.declared.log.Log.{Log as LogValue}
 use Rattle.aria_log.specs.declared.find.Found.{Found as FoundValue}
 use Rattle.aria_log.specs.Pieces.{Piece, LogFiles, pieces_of, IsFront}
 use Rattle.aria_log.specs.Files.{IsBase, IsQuiet, IsSoundLog}
-use Rattle.aria_log.specs.Groups.{Logged}
+use Rattle.aria_record.specs.Logged.{Logged}
 use Rattle.aria_log.specs.Log.{Fills, IsBaseOf, IsOpened, file_of}
 
 -- ---- the base

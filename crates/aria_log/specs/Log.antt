@@ -12,7 +12,8 @@ use Rattle.aria_record.specs.Groups.{IsGroup}
 use Rattle.aria_log.specs.declared.log.Log.{Log as LogValue}
 use Rattle.aria_log.specs.LogPage.{log_body}
 use Rattle.aria_log.specs.Pieces.{Piece, Pieces, LogFiles, log_files, pieces_of, Stand, IsFront}
-use Rattle.aria_log.specs.Groups.{Logged, placed, groups_bytes, groups_from}
+use Rattle.aria_record.specs.Logged.{Logged}
+use Rattle.aria_log.specs.Groups.{placed, groups_bytes, groups_from}
 use Rattle.aria_log.specs.Files.{HoldsLog, IsSoundLog, HoldsFrom}
 
 -- ---- the log at each moment

@@ -11,7 +11,8 @@ use Rattle.aria_log.specs.declared.reader.Reader.{Reader as ReaderValue}
 use Rattle.aria_log.specs.declared.step.Step.{Step}
 use Rattle.aria_log.specs.declared.step.Step.TheVariants.{Group, Rest, End}
 use Rattle.aria_log.specs.Pieces.{Piece, LogFiles, Stand}
-use Rattle.aria_log.specs.Groups.{Logged, lsn_at_place, run_rest}
+use Rattle.aria_record.specs.Logged.{Logged, lsn_at_place}
+use Rattle.aria_log.specs.Groups.{run_rest}
 use Rattle.aria_log.specs.Log.{place}
 use Rattle.aria_log.specs.Reading.{Standing, Whole, Void, Entry, entries_of_runs, entries_at, next_place, seen, loaded}
 

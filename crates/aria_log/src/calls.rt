@@ -6,7 +6,7 @@ ghost use Rattle.aria_record.specs.declared.record.Record.{Record};
 ghost use Rattle.aria_record.specs.Groups.{IsGroup};
 ghost use Rattle.aria_record.specs.Spelled.{group_bytes};
 ghost use Rattle.aria_log.specs.Pieces.{Piece};
-ghost use Rattle.aria_log.specs.Groups.{Logged, lsn_at_place};
+ghost use Rattle.aria_record.specs.Logged.{Logged, lsn_at_place};
 ghost use Rattle.aria_log.specs.Log.{place, behind, AreFull, IsLog, IsRunning, IsSameEnd, IsWriting, LogKeeps, Synced};
 ghost use Rattle.aria_log.specs.Spelling.{IsSpelled};
 ghost use Rattle.aria_log.specs.Causes.{HasAppendCause};

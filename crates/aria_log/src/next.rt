@@ -4,7 +4,8 @@ ghost use Rattle.std.specs.Prelude.{◌≡◌, ◌≤◌, ◌<◌, ◌+◌, ◌-
 ghost use Rattle.aria_host.specs.Calls.{Unchanged};
 ghost use Rattle.aria_record.specs.Reading.{read_group};
 ghost use Rattle.aria_log.specs.Pieces.{Piece, LogFiles, log_files};
-ghost use Rattle.aria_log.specs.Groups.{lsn_at_place, run_rest};
+ghost use Rattle.aria_record.specs.Logged.{lsn_at_place};
+ghost use Rattle.aria_log.specs.Groups.{run_rest};
 ghost use Rattle.aria_log.specs.Log.{place};
 ghost use Rattle.aria_log.specs.Reading.{Entry, entries_at, entries_of_runs, IsReadable, IsReader, StandsAt, seen};
 ghost use Rattle.aria_log.specs.Stepping.{shown, page_behind, IsLeft, EndsRun, StandsIn, IsStep, HasPageCause, HasNextCause};

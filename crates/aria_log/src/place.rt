@@ -2,7 +2,7 @@
 
 ghost use Rattle.std.specs.Prelude.{◌≡◌, ◌≤◌, ◌<◌, ◌*◌, ◌-◌, ◌/◌, ◌^◌, ℕ, IfSome};
 ghost use Rattle.aria_page.specs.Lsn.{IsLsn};
-ghost use Rattle.aria_log.specs.Groups.{lsn_at_place};
+ghost use Rattle.aria_record.specs.Logged.{lsn_at_place};
 ghost use Rattle.aria_log.specs.Finding.{means_none, place_of, start_of};
 
 use crate::log_page::{BODY_AT, BODY_BYTES, FILE_PAGES, file_of, page_of};

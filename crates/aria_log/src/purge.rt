@@ -3,7 +3,7 @@
 ghost use Rattle.std.specs.Prelude.{◌≡◌, ◌≤◌, ◌^◌, ◌∷◌, ◌++◌, [], ℕ, List, IsTrue, is_ok};
 ghost use Rattle.aria_host.specs.declared.file_name.FileName.{FileName};
 ghost use Rattle.aria_host.specs.Calls.{HasDiskCause, HasDiskOrMemoryCause, HaveNames, Lists};
-ghost use Rattle.aria_log.specs.Groups.{Logged};
+ghost use Rattle.aria_record.specs.Logged.{Logged};
 ghost use Rattle.aria_log.specs.Log.{file_of, IsLog, LogKeeps};
 ghost use Rattle.aria_log.specs.Purge.{IsLowest, number_from, Purges};
 

@@ -5,7 +5,7 @@ ghost use Rattle.std.specs.Option.{option_map};
 ghost use Rattle.aria_page.specs.Page.{zero_page};
 ghost use Rattle.aria_host.specs.Calls.{HasDiskCause, Unchanged, extent_of};
 ghost use Rattle.aria_log.specs.Pieces.{log_files};
-ghost use Rattle.aria_log.specs.Groups.{Logged};
+ghost use Rattle.aria_record.specs.Logged.{Logged};
 ghost use Rattle.aria_log.specs.Log.{HasNoLog, HoldsAll, IsBlankFrom, IsEnded, IsLog, IsOpened, KeepsRoom, LogMoments, Starts, place};
 
 use crate::log::Log;

@@ -1,7 +1,7 @@
 ghost use Rattle.std.specs.Prelude.{◌≡◌, false, IfOk, OnOk, ℕ, List as Seq, ◌<◌, ◌≤◌, ◌^◌};
 ghost use Rattle.aria_page.specs.Lsn.{IsLsn};
 ghost use Rattle.aria_host.specs.MemHost.{mem_state};
-ghost use Rattle.aria_log.specs.Groups.{Logged};
+ghost use Rattle.aria_record.specs.Logged.{Logged};
 ghost use Rattle.aria_log.specs.Log.{HasNoLog, IsOpened, IsRunning};
 ghost use Rattle.aria_log.specs.Finding.{means_none};
 ghost use Rattle.aria_log.specs.Spelling.{IsSpelled};

@@ -1,5 +1,5 @@
 -- Edits of a page's body.
-use Rattle.std.specs.Prelude.{◌≡◌, ℕ, ◌+◌, ◌≤◌, List, length, take, drop}
+use Rattle.std.specs.Prelude.{◌≡◌, ℕ, ◌+◌, ◌≤◌, List, [], ◌∷◌, length, take, drop}
 use Rattle.aria_page.specs.declared.edit.Edit.{Edit}
 use Rattle.aria_page.specs.declared.edit.Edit.TheVariants.{Set, Shift, Whole}
 use Rattle.aria_page.specs.declared.page.TheConstants.{BODY_BYTES}
@@ -22,3 +22,8 @@ unfoldable pub edited : Edit → List ℕ → List ℕ
 edited (Set at bytes) body = with_bytes at bytes body
 edited (Shift at len to) body = with_bytes to (take len (drop at body)) body
 edited (Whole new) body = new
+
+-- the body after these edits, one after another
+abbrev pub all_edited : List Edit → List ℕ → List ℕ
+all_edited [] body = body
+all_edited (e ∷ es) body = all_edited es (edited e body)

@@ -7,5 +7,6 @@ pub mod Crc
 pub mod Page
 pub mod PageKind
 pub mod Edit
+pub mod Change
 pub mod Text
 pub mod Items

@@ -1,5 +1,5 @@
 -- Log sequence numbers: how they are stored, and their order.
-use Rattle.std.specs.Prelude.{◌≡◌, ℕ, ◌<◌, ◌^◌, ◌⊎◌, false, List, ◌++◌, drop, Option, Some, codes, decimal}
+use Rattle.std.specs.Prelude.{◌≡◌, ℕ, ◌+◌, ◌*◌, ◌<◌, ◌^◌, ◌⊎◌, false, List, ◌++◌, drop, Option, Some, codes, decimal}
 use Rattle.std.specs.Fmt.{digits}
 use Rattle.aria_page.specs.declared.lsn.Lsn.{Lsn}
 use Rattle.aria_page.specs.Field.{◌>>=◌}
@@ -28,6 +28,10 @@ lsn_at bytes = do
 -- a stands before b in the log: in an earlier file, or in the same file at an earlier byte
 abbrev pub IsBefore : Lsn → Lsn → Type 0
 IsBefore a b = (a.file < b.file) ⊎ ((a.file ≡ b.file) × (a.offset < b.offset))
+
+-- its 7 bytes as one number: it grows as they are ordered
+abbrev pub lsn_number : Lsn → ℕ
+lsn_number l = l.file * 2 ^ 32 + l.offset
 
 -- how it is printed: the file's number in decimal, and the offset in hexadecimal digits of lower case
 abbrev pub lsn_text : Lsn → List ℕ

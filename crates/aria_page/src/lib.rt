@@ -11,6 +11,7 @@
 #![tactic(auto)]
 
 mod bytes;
+mod change;
 mod crc;
 mod crc_table;
 mod edit;
@@ -28,6 +29,7 @@ pub use bytes::{
     bytes_at, bytes_from, counted_u8_at, counted_u16_at, counted_u32_at, push_counted_u8,
     push_counted_u16, push_counted_u32, same_bytes,
 };
+pub use change::{Change, apply_all};
 pub use crc::checksum;
 pub use edit::{Edit, EditFault, apply};
 pub use group::{Last, RedoKind};

@@ -8,7 +8,7 @@ use Rattle.aria_host.specs.State.{Folder, State, LeavesOnly}
 use Rattle.aria_host.proofs.Moments.{weakened}
 use Rattle.aria_log.specs.declared.find.Found.{Found as FoundValue}
 use Rattle.aria_log.specs.Pieces.{Piece, log_files}
-use Rattle.aria_log.specs.Groups.{lsn_at_place}
+use Rattle.aria_record.specs.Logged.{lsn_at_place}
 use Rattle.aria_log.specs.Reading.{Entry, entries_of_runs, IsReadable}
 use Rattle.aria_readlog.specs.declared.choice.Choice.{Choice}
 use Rattle.aria_readlog.specs.Choice.{all_lines, total_line}

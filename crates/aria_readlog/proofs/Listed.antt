@@ -9,7 +9,7 @@ use Rattle.aria_host.specs.State.{Folder, State}
 use Rattle.aria_host.specs.Calls.{Unchanged}
 use Rattle.aria_host.proofs.Moments.{looks}
 use Rattle.aria_page.specs.declared.lsn.Lsn.{Lsn}
-use Rattle.aria_log.specs.Groups.{lsn_at_place}
+use Rattle.aria_record.specs.Logged.{lsn_at_place}
 use Rattle.aria_record.specs.declared.record.Record.{Record}
 use Rattle.aria_log.specs.declared.step.Step.TheVariants.{Group, Rest, End}
 use Rattle.aria_log.specs.declared.log.Log.{Log as LogValue}

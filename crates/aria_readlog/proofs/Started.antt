@@ -11,7 +11,7 @@ use Rattle.aria_control.specs.Found.{Finds as FindsControl}
 use Rattle.aria_log.specs.declared.log.Log.{Log as LogValue}
 use Rattle.aria_log.specs.declared.find.Found.{Found as FoundValue}
 use Rattle.aria_log.specs.Pieces.{Piece, LogFiles, log_files, pieces_of, IsFront}
-use Rattle.aria_log.specs.Groups.{lsn_at_place}
+use Rattle.aria_record.specs.Logged.{lsn_at_place}
 use Rattle.aria_log.specs.Files.{IsBase}
 use Rattle.aria_log.specs.Reading.{entries_of_runs}
 use Rattle.aria_log.specs.Finding.{means_none, start_of, place_of, base_of, NoneMissing, IsFound, Finds}

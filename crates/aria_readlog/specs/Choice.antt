@@ -3,7 +3,7 @@ use Rattle.std.specs.Prelude.{ℕ, ◌==◌, ◌&&◌, ◌||◌, not, if◌then�
 use Rattle.std.specs.List.{filter, flat_map}
 use Rattle.std.specs.Option.{option_map_or}
 use Rattle.aria_page.specs.declared.lsn.Lsn.{Lsn}
-use Rattle.aria_log.specs.Groups.{lsn_at_place}
+use Rattle.aria_record.specs.Logged.{lsn_at_place}
 use Rattle.aria_log.specs.Reading.{Entry, Standing, Whole, Void}
 use Rattle.aria_readlog.specs.declared.choice.Choice.{Choice}
 use Rattle.aria_readlog.specs.Line.{group_lines, rest_line, last_line}

@@ -3,7 +3,7 @@ use Rattle.std.specs.Prelude.{◌≡◌, ℕ, ◌+◌, true, List, [], ◌∷◌
 use Rattle.std.specs.String.{string_bytes}
 use Rattle.aria_host.specs.State.{State}
 use Rattle.aria_page.specs.declared.lsn.Lsn.{Lsn}
-use Rattle.aria_log.specs.Groups.{lsn_at_place}
+use Rattle.aria_record.specs.Logged.{lsn_at_place}
 use Rattle.aria_log.specs.Reading.{Entry, next_place}
 use Rattle.aria_readlog.specs.declared.listing.Listing.{Listing}
 use Rattle.aria_readlog.specs.Choice.{asked, all_lines, group_count, rest_count}

@@ -8,7 +8,7 @@ use Rattle.aria_control.specs.Found.{Answers as ControlAnswers}
 use Rattle.aria_log.specs.declared.log.Log.{Log as LogValue}
 use Rattle.aria_log.specs.declared.find.Found.{Found as FoundValue}
 use Rattle.aria_log.specs.Pieces.{Piece, LogFiles, log_files, pieces_of, IsFront}
-use Rattle.aria_log.specs.Groups.{lsn_at_place}
+use Rattle.aria_record.specs.Logged.{lsn_at_place}
 use Rattle.aria_log.specs.Reading.{IsReadable}
 use Rattle.aria_log.specs.Finding.{start_of, base_of, NoneMissing, Finds}
 use Rattle.aria_readlog.specs.Start.{IsStart}

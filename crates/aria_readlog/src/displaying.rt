@@ -7,7 +7,7 @@ ghost use Rattle.aria_host.specs.declared.host.Extent.{Extent};
 ghost use Rattle.aria_host.specs.State.{LeavesOnly};
 ghost use Rattle.aria_control.specs.Found.{control_file};
 ghost use Rattle.aria_log.specs.Pieces.{Piece, log_files};
-ghost use Rattle.aria_log.specs.Groups.{lsn_at_place};
+ghost use Rattle.aria_record.specs.Logged.{lsn_at_place};
 ghost use Rattle.aria_log.specs.Reading.{entries_of_runs, IsReadable};
 ghost use Rattle.aria_readlog.specs.Line.{last_line};
 ghost use Rattle.aria_readlog.specs.Choice.{all_lines, total_line};

@@ -3,7 +3,7 @@
 ghost use Rattle.std.specs.Prelude.{◌≡◌, ◌++◌, ◌+◌, ◌-◌, ◌<◌, ◌≤◌, ◌^◌, ℕ, [], List, true, false, Some, None, IsTrue, IfOk, OnOk, OnErr, if◌then◌else◌, ◌&&◌, not};
 ghost use Rattle.std.specs.String.{string_bytes};
 ghost use Rattle.aria_log.specs.Pieces.{log_files};
-ghost use Rattle.aria_log.specs.Groups.{lsn_at_place};
+ghost use Rattle.aria_record.specs.Logged.{lsn_at_place};
 ghost use Rattle.aria_log.specs.Log.{place};
 ghost use Rattle.aria_log.specs.Reading.{Entry, Whole, Void, IsReader, StandsAt};
 ghost use Rattle.aria_log.specs.Stepping.{IsStep};

@@ -2,3 +2,4 @@ pub mod RecordKind
 pub mod Spelled
 pub mod Groups
 pub mod Reading
+pub mod Logged

@@ -3,7 +3,7 @@ ghost use Rattle.aria_host.specs.Calls.{Unchanged};
 ghost use Rattle.aria_host.specs.MemHost.{mem_state};
 ghost use Rattle.aria_log.specs.declared.log.Log.{Log as LogValue};
 ghost use Rattle.aria_log.specs.Pieces.{LogFiles, log_files};
-ghost use Rattle.aria_log.specs.Groups.{Logged, lsn_at_place};
+ghost use Rattle.aria_record.specs.Logged.{Logged, lsn_at_place};
 ghost use Rattle.aria_log.specs.Log.{IsOpened, place};
 ghost use Rattle.aria_log.specs.Reading.{Entry, StandsAt};
 ghost use Rattle.aria_log.specs.Stepping.{IsStep};

@@ -3,7 +3,7 @@
 ghost use Rattle.std.specs.Prelude.{◌≡◌, ◌≤◌, ◌*◌, ℕ, List, length, IfOk, OnOk};
 ghost use Rattle.aria_host.specs.MemHost.{mem_state};
 ghost use Rattle.aria_log.specs.Pieces.{Piece, log_files};
-ghost use Rattle.aria_log.specs.Groups.{Logged};
+ghost use Rattle.aria_record.specs.Logged.{Logged};
 ghost use Rattle.aria_log.specs.Log.{HasNoLog, IsLog};
 ghost use Rattle.aria_log.specs.Reading.{IsReadable};
 

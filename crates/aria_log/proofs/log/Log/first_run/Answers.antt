@@ -1,7 +1,7 @@
 use Rattle.std.proofs.Common.{◌≡◌, ◌∙◌, ◌+◌, ◌*◌, ◌/◌, ◌<◌, ℕ, Some, refl, sym, ap, arith, subst}
 use Rattle.aria_host.specs.Folder.{Folder}
 use Rattle.aria_log.specs.Pieces.{Piece, log_files}
-use Rattle.aria_log.specs.Groups.{lsn_at_place}
+use Rattle.aria_record.specs.Logged.{lsn_at_place}
 use Rattle.aria_log.specs.Log.{place}
 use Rattle.aria_log.specs.Reading.{seen, entries_of_runs}
 use Rattle.aria_log.specs.Stepping.{shown, RunsFrom}

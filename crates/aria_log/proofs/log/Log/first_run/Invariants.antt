@@ -1,7 +1,7 @@
 use Rattle.std.proofs.Common.{◌≡◌, ◌<◌, ◌+◌, ◌-◌, ◌*◌, ◌^◌, ℕ, List, IsTrue}
 use Rattle.aria_host.specs.Calls.{Unchanged}
 use Rattle.aria_log.specs.Pieces.{Piece, log_files}
-use Rattle.aria_log.specs.Groups.{lsn_at_place}
+use Rattle.aria_record.specs.Logged.{lsn_at_place}
 use Rattle.aria_log.specs.Reading.{IsReader, IsReadable, entries_of_runs}
 use Rattle.aria_log.specs.Stepping.{RunsFrom}
 use Rattle.aria_log.proofs.log.Log.first_run.Given as goal

@@ -1,5 +1,5 @@
 use Rattle.std.proofs.Common.{◌≡◌, ◌/◌, ◌<◌, ◌^◌, ℕ, List, true, IsTrue}
-use Rattle.aria_log.specs.Groups.{Logged}
+use Rattle.aria_record.specs.Logged.{Logged}
 use Rattle.aria_log.specs.Log.{IsOpened, Starts}
 use Rattle.aria_log.proofs.log.Log.remove_later.Given as goal
 

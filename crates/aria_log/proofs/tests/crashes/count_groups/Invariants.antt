@@ -2,7 +2,7 @@ use Rattle.std.proofs.Common.{◌≡◌, ℕ, List}
 use Rattle.aria_host.specs.Calls.{Unchanged}
 use Rattle.aria_host.specs.MemHost.{mem_state}
 use Rattle.aria_log.specs.Pieces.{log_files}
-use Rattle.aria_log.specs.Groups.{lsn_at_place}
+use Rattle.aria_record.specs.Logged.{lsn_at_place}
 use Rattle.aria_log.specs.Reading.{Entry, IsReader, StandsAt}
 use Rattle.aria_log.proofs.tests.crashes.count_groups.Given as goal
 

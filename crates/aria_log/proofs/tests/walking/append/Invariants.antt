@@ -1,6 +1,6 @@
 use Rattle.std.proofs.Common.{ℕ, ◌*◌, List}
 use Rattle.aria_host.specs.MemHost.{mem_state}
-use Rattle.aria_log.specs.Groups.{Logged}
+use Rattle.aria_record.specs.Logged.{Logged}
 use Rattle.aria_log.specs.Log.{IsLog}
 use Rattle.aria_log.proofs.tests.walking.append.Given as goal
 

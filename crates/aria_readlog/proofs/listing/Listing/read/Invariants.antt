@@ -1,5 +1,5 @@
 use Rattle.std.proofs.Common.{◌≡◌, ◌≤◌, ◌+◌, ℕ, List, [], IsTrue}
-use Rattle.aria_log.specs.Groups.{lsn_at_place}
+use Rattle.aria_record.specs.Logged.{lsn_at_place}
 use Rattle.aria_log.specs.Pieces.{log_files}
 use Rattle.aria_log.specs.Reading.{Entry, IsReader, StandsAt}
 use Rattle.aria_readlog.proofs.Listed.{IsListed}
