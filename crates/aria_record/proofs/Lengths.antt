@@ -33,3 +33,8 @@ length_fits h fits = rw (behind_place h) fits
 pub length_set : {front text left now new : List ℕ} {at : ℕ} → Behind front text left now at → new ≡ take at now ++ (number 4 (length (drop (at + 4) now)) ++ drop (at + 4) now)
     → new ≡ front ++ (number 4 (length text) ++ text)
 length_set h set = rw (behind_place h, before_place h) at set
+
+-- An entry whose kind stands in front of that place is then whole.
+pub entry_set : (out kind : List ℕ) {text left now new : List ℕ} {at : ℕ} → Behind (out ++ kind) text left now at → new ≡ take at now ++ (number 4 (length (drop (at + 4) now)) ++ drop (at + 4) now)
+    → new ≡ out ++ (kind ++ (number 4 (length text) ++ text))
+entry_set out kind {text} h set = length_set h set ∙ append_assoc out kind (number 4 (length text) ++ text)

@@ -1,4 +1,5 @@
 pub mod Lengths
+pub mod Lent
 pub mod Readers
 pub mod Parts
 pub mod Records

@@ -2,6 +2,7 @@
 
 ghost use Rattle.std.specs.Prelude.{◌≡◌, ◌^◌, ◌<◌, ◌++◌, length, All, IfOk, OnOk};
 ghost use Rattle.std.specs.List.{flat_map};
+ghost use Rattle.aria_page.specs.Change.{edit_of, edits_of};
 ghost use Rattle.aria_page.specs.Edit.{IsWithin};
 ghost use Rattle.aria_page.specs.Field.{Gives};
 ghost use Rattle.aria_page.specs.Items.{items_at, list_at, list_bytes};
@@ -11,8 +12,8 @@ ghost use Rattle.aria_record.specs.Spelled.{edit_bytes};
 ghost use Rattle.aria_record.specs.Reading.{read_set, read_shift, read_body_edit, read_edit, read_edits};
 
 use aria_page::{
-    BODY_BYTES, Bytes, Edit, List, bytes_at, counted_u16_at, push_counted_u16, push_u8, push_u16,
-    u8_at, u16_at,
+    BODY_BYTES, Bytes, Change, Edit, List, bytes_at, counted_u16_at, push_counted_u16, push_u8,
+    push_u16, u8_at, u16_at,
 };
 use std::alloc::{AllocError, Global};
 
@@ -84,22 +85,42 @@ fn whole_at(alloc: Global, bytes: &[u8]) -> Result<Option<(Edit, &[u8])>, AllocE
     }
 }
 
-fn push_edit(out: &mut Bytes, edit: &Edit) -> Result<(), AllocError>
-    requires { IsWithin edit.now }
-    ensures { OnOk result (out.new ≡ out.old ++ edit_bytes edit.now) }
+// The edit with its bytes lent.
+fn lent(edit: &Edit) -> Change<'_>
+    ensures { edit_of result ≡ edit.now }
 {
     match edit {
-        Edit::Set { at, bytes } => {
+        Edit::Set { at, bytes } => Change::Set {
+            at: *at,
+            bytes: bytes.as_slice(),
+        },
+        Edit::Shift { at, len, to } => Change::Shift {
+            at: *at,
+            len: *len,
+            to: *to,
+        },
+        Edit::Whole { body } => Change::Whole {
+            body: body.as_slice(),
+        },
+    }
+}
+
+fn push_change(out: &mut Bytes, edit: Change<'_>) -> Result<(), AllocError>
+    requires { IsWithin (edit_of edit) }
+    ensures { OnOk result (out.new ≡ out.old ++ edit_bytes (edit_of edit.entry)) }
+{
+    match edit {
+        Change::Set { at, bytes } => {
             out.push(0)?;
-            push_set(out, *at, bytes.as_slice())
+            push_set(out, at, bytes)
         }
-        Edit::Shift { at, len, to } => {
+        Change::Shift { at, len, to } => {
             out.push(1)?;
-            push_shift(out, *at, *len, *to)
+            push_shift(out, at, len, to)
         }
-        Edit::Whole { body } => {
+        Change::Whole { body } => {
             out.push(2)?;
-            out.extend_from_slice(body.as_slice())
+            out.extend_from_slice(body)
         }
     }
 }
@@ -109,7 +130,7 @@ fn push_edits(out: &mut Bytes, edits: &[Edit]) -> Result<(), AllocError>
     ensures { OnOk result (out.new ≡ out.old ++ flat_map edit_bytes edits.now) }
 {
     for edit in edits {
-        push_edit(out, edit)?;
+        push_change(out, lent(edit))?;
     }
     Ok(())
 }
@@ -122,6 +143,26 @@ pub(crate) fn push_all_edits(out: &mut Bytes, edits: &[Edit]) -> Result<(), Allo
 {
     push_u8(out, edits.len() as u8)?;
     push_edits(out, edits)
+}
+
+fn push_changes(out: &mut Bytes, edits: &[Change<'_>]) -> Result<(), AllocError>
+    requires { All (λ e. IsWithin (edit_of e)) edits.now }
+    ensures { OnOk result (out.new ≡ out.old ++ flat_map edit_bytes (edits_of edits.now)) }
+{
+    for edit in edits {
+        push_change(out, *edit)?;
+    }
+    Ok(())
+}
+
+// Edits whose bytes are lent, behind a byte with their number.
+pub(crate) fn push_all_changes(out: &mut Bytes, edits: &[Change<'_>]) -> Result<(), AllocError>
+    requires few { length edits.now < 256 }
+    requires within { All (λ e. IsWithin (edit_of e)) edits.now }
+    ensures { OnOk result (out.new ≡ out.old ++ list_bytes edit_bytes (edits_of edits.now)) }
+{
+    push_u8(out, edits.len() as u8)?;
+    push_changes(out, edits)
 }
 
 // The edit in front, and the bytes after it.

@@ -7,9 +7,10 @@ ghost use Rattle.aria_page.specs.Field.{Gives};
 ghost use Rattle.aria_page.specs.Items.{list_bytes};
 ghost use Rattle.aria_page.specs.Lsn.{lsn_bytes};
 ghost use Rattle.aria_page.specs.Number.{number};
-ghost use Rattle.aria_page.specs.Text.{counted, name_bytes};
+ghost use Rattle.aria_page.specs.Text.{name_bytes};
 ghost use Rattle.aria_value.specs.Reading.{read_definition};
-ghost use Rattle.aria_record.specs.Groups.{BodyFits, RecordFits};
+ghost use Rattle.aria_record.specs.Groups.{BodyFits};
+ghost use Rattle.aria_record.specs.RecordKind.{kind_byte};
 ghost use Rattle.aria_record.specs.Spelled.{part_bytes, edit_bytes, dirty_bytes, table_number, row_head, key_head, body_bytes, record_bytes};
 ghost use Rattle.aria_record.specs.Reading.{read_dirty, read_dirties, read_redo, read_row_insert, read_row_delete, read_key_insert, read_key_delete, read_clr_end, read_commit, read_checkpoint, read_table_head, read_create, read_drop, read_repair, read_kind, read_body, read_record};
 
@@ -29,22 +30,24 @@ use std::alloc::{AllocError, Global};
 
 // ---- bodies, written
 
-fn push_page_edits(out: &mut Bytes, page: u32, edits: &[Edit]) -> Result<(), AllocError>
-    requires few { length edits.now < 256 }
-    requires within { All IsWithin edits.now }
-    ensures { OnOk result (out.new ≡ out.old ++ (number 4 page ++ list_bytes edit_bytes edits.now)) }
-{
-    push_u32(out, page)?;
-    push_all_edits(out, edits)
-}
-
-fn push_part_edits(out: &mut Bytes, part: Part, page: u32, edits: &[Edit]) -> Result<(), AllocError>
-    requires few { length edits.now < 256 }
-    requires within { All IsWithin edits.now }
-    ensures { OnOk result (out.new ≡ out.old ++ (part_bytes part ++ (number 4 page ++ list_bytes edit_bytes edits.now))) }
+fn push_page(out: &mut Bytes, part: Part, page: u32) -> Result<(), AllocError>
+    ensures { OnOk result (out.new ≡ out.old ++ (part_bytes part ++ number 4 page)) }
 {
     push_part(out, part)?;
-    push_page_edits(out, page, edits)
+    push_u32(out, page)
+}
+
+// The page that edits are made to.
+pub(crate) fn push_redo_head(
+    out: &mut Bytes,
+    table: &Name,
+    part: Part,
+    page: u32,
+) -> Result<(), AllocError>
+    ensures { OnOk result (out.new ≡ out.old ++ (name_bytes table.now ++ (part_bytes part ++ number 4 page))) }
+{
+    push_name(out, table)?;
+    push_page(out, part, page)
 }
 
 fn push_redo(
@@ -58,12 +61,12 @@ fn push_redo(
     requires within { All IsWithin edits.now }
     ensures { OnOk result (out.new ≡ out.old ++ (name_bytes table.now ++ (part_bytes part ++ (number 4 page ++ list_bytes edit_bytes edits.now)))) }
 {
-    push_name(out, table)?;
-    push_part_edits(out, part, page, edits)
+    push_redo_head(out, table, part, page)?;
+    push_all_edits(out, edits)
 }
 
 // A row that was put or taken, behind its table and its places.
-fn push_row(
+pub(crate) fn push_row(
     out: &mut Bytes,
     table: &Name,
     prev: Lsn,
@@ -76,7 +79,7 @@ fn push_row(
     out.extend_from_slice(row)
 }
 
-fn push_key(
+pub(crate) fn push_key(
     out: &mut Bytes,
     table: &Name,
     prev: Lsn,
@@ -97,7 +100,12 @@ fn push_two(out: &mut Bytes, undone: Lsn, next: Lsn) -> Result<(), AllocError>
     push_lsn(out, next)
 }
 
-fn push_clr(out: &mut Bytes, table: &Name, undone: Lsn, next: Lsn) -> Result<(), AllocError>
+pub(crate) fn push_clr(
+    out: &mut Bytes,
+    table: &Name,
+    undone: Lsn,
+    next: Lsn,
+) -> Result<(), AllocError>
     ensures { OnOk result (out.new ≡ out.old ++ (name_bytes table.now ++ (lsn_bytes undone ++ lsn_bytes next))) }
 {
     push_name(out, table)?;
@@ -185,7 +193,7 @@ fn push_table(out: &mut Bytes, table: &Name, byte: u8) -> Result<(), AllocError>
     push_u8(out, byte)
 }
 
-fn push_create(
+pub(crate) fn push_create(
     out: &mut Bytes,
     table: &Name,
     plain: bool,
@@ -264,16 +272,15 @@ pub(crate) fn set_length(out: &mut Bytes, at: usize)
     out.overwrite(at, &u32_bytes(count as u32));
 }
 
-// A body behind 4 bytes with its length, which is known once the body is written.
-fn push_long_body(out: &mut Bytes, entry: &Record) -> Result<(), AllocError>
-    requires { RecordFits entry.now }
-    ensures { OnOk result (out.new ≡ out.old ++ counted 4 (body_bytes entry.now)) }
+// Begins an entry: the byte of its kind, and a place of 4 bytes for its body's length. Says where the place is.
+pub(crate) fn begin_entry(out: &mut Bytes, kind: RecordKind) -> Result<usize, AllocError>
+    ensures place { IfOk result (λ at. at ≡ length (out.old ++ number 1 (kind_byte kind))) }
+    ensures begun { OnOk result (out.new ≡ (out.old ++ number 1 (kind_byte kind)) ++ number 4 0) }
 {
+    push_u8(out, kind.to_byte())?;
     let at = out.len();
     push_u32(out, 0)?;
-    push_body(out, entry)?;
-    set_length(out, at);
-    Ok(())
+    Ok(at)
 }
 
 // ---- bodies, read
@@ -560,8 +567,10 @@ impl Stored for Record {
     ghost reads = { read_record };
 
     fn write(&self, out: &mut Bytes) -> Result<(), AllocError> {
-        push_u8(out, self.kind().to_byte())?;
-        push_long_body(out, self)
+        let at = begin_entry(out, self.kind())?;
+        push_body(out, self)?;
+        set_length(out, at);
+        Ok(())
     }
 
     #[tactic(auto, unfolding(crate::specs::Reading::read_record))]
