@@ -1,10 +1,13 @@
 -- Edits whose bytes are lent are spelled as edits are.
 use Rattle.std.proofs.Common.{◌≡◌, ℕ, suc, ◌≤◌, List, [], ◌∷◌, ◌++◌, length, take, refl, sym, ap, ◌∙◌, append_assoc}
-use Rattle.std.specs.List.{flat_map}
+use Rattle.std.specs.Prelude.{All}
+use Rattle.std.specs.List.{flat_map, AllByRecursion}
 use Rattle.std.proofs.lemmas.List.{take_all}
 use Rattle.std.proofs.lemmas.List.Concat.{flat_map-cons}
+use Rattle.std.proofs.lemmas.List.Elements.{recursion_from_All}
 use Rattle.aria_page.specs.declared.change.Change.{Change}
 use Rattle.aria_page.specs.Change.{edit_of, edits_of}
+use Rattle.aria_page.specs.Edit.{IsWithin}
 use Rattle.aria_page.specs.Items.{list_bytes}
 use Rattle.aria_page.specs.Number.{number}
 use Rattle.aria_record.specs.Spelled.{edit_bytes}
@@ -27,3 +30,10 @@ pub list_lent : (edits : List Change) (before counted now : List ℕ) → counte
 list_lent edits before counted now count is =
     is ∙ ap (λ (l : List ℕ). l ++ flat_map edit_bytes (edits_of edits)) (count ∙ ap (λ (n : ℕ). before ++ number 1 n) (sym (lent_length edits)))
     ∙ append_assoc before (number 1 (length (edits_of edits))) (flat_map edit_bytes (edits_of edits))
+
+within_lent : (edits : List Change) → AllByRecursion (λ e. IsWithin (edit_of e)) edits → AllByRecursion IsWithin (edits_of edits)
+within_lent [] all = tt
+within_lent (e ∷ edits) all = (all.0, within_lent edits all.1)
+
+pub all_within : (edits : List Change) → All (λ e. IsWithin (edit_of e)) edits → AllByRecursion IsWithin (edits_of edits)
+all_within edits all = within_lent edits (recursion_from_All (λ e. IsWithin (edit_of e)) edits all)

@@ -3,3 +3,5 @@ pub mod Lent
 pub mod Readers
 pub mod Parts
 pub mod Records
+pub mod Sizes
+pub mod Writers

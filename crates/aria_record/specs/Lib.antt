@@ -3,3 +3,4 @@ pub mod Spelled
 pub mod Groups
 pub mod Reading
 pub mod Logged
+pub mod Writing

@@ -10,15 +10,18 @@
 #![tactic(auto)]
 
 mod edit_codec;
+mod entry_codec;
 mod field_codec;
 mod group;
 mod group_codec;
+mod group_writer;
 mod record;
 mod record_codec;
 mod record_kind;
 
 pub use group::Group;
 pub use group_codec::{decode_group, encode_group};
+pub use group_writer::GroupWriter;
 pub use record::{Dirty, Record};
 pub use record_kind::RecordKind;
 

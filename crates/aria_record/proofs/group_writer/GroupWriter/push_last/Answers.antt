@@ -1,0 +1,7 @@
+use Rattle.std.proofs.Common.{refl}
+use Rattle.aria_record.proofs.Sizes.{last_low}
+use Rattle.aria_record.proofs.Writers.{pushes}
+use Rattle.aria_record.proofs.group_writer.GroupWriter.push_last.Goals as goal
+
+pub returns : goal.returns
+returns c = pushes c.args.self.now _ c.make_head.new.out c.in_ok-make_head.ensures.place c.in_ok-make_head.ensures.same c.in_ok-push_last_entry.ensures (last_low c.args.last.now c.requires.last) refl
