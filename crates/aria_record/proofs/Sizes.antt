@@ -1,5 +1,5 @@
 -- How many bytes entries take.
-use Rattle.std.proofs.Common.{◌≡◌, ℕ, ◌+◌, ◌*◌, ◌^◌, ◌<◌, ◌≤◌, Bool, List, [], ◌∷◌, ◌++◌, length, Option, Some, None, refl, sym, ap, ◌∙◌, arith, length-append}
+use Rattle.std.proofs.Common.{◌≡◌, ℕ, ◌+◌, ◌*◌, ◌^◌, ◌<◌, ◌≤◌, Bool, List, [], ◌∷◌, ◌++◌, length, Option, Some, None, refl, ap, ◌∙◌, arith, length-append}
 use Rattle.std.specs.Prelude.{IsTrue}
 use Rattle.std.specs.List.{flat_map, AllByRecursion}
 use Rattle.std.proofs.lemmas.List.Concat.{flat_map-cons}
@@ -48,9 +48,16 @@ length-tail (Some place) = length-place place
 
 length-places : (places : Places) → length (places_bytes places) ≡ 15
 length-places places =
-    omega (arith, length-append (place_bytes places.head) (tail_bytes places.tail ++ (number 4 places.blob ++ number 1 places.blobs)), length-place places.head,
-        length-append (tail_bytes places.tail) (number 4 places.blob ++ number 1 places.blobs), length-tail places.tail,
-        length-append (number 4 places.blob) (number 1 places.blobs), length-number 4 places.blob, length-number 1 places.blobs)
+    omega (
+      arith,
+      length-append (place_bytes places.head) (tail_bytes places.tail ++ (number 4 places.blob ++ number 1 places.blobs)),
+      length-place places.head,
+      length-append (tail_bytes places.tail) (number 4 places.blob ++ number 1 places.blobs),
+      length-tail places.tail,
+      length-append (number 4 places.blob) (number 1 places.blobs),
+      length-number 4 places.blob,
+      length-number 1 places.blobs,
+    )
 
 row_head_most : (table : List ℕ) (prev : Lsn) (places : Places) → IsTrue (is_word table) → length (row_head table prev places) ≤ 87
 row_head_most table prev places word =
@@ -58,8 +65,16 @@ row_head_most table prev places word =
 
 key_head_most : (table : List ℕ) (prev : Lsn) (key target : ℕ) → IsTrue (is_word table) → length (key_head table prev key target) ≤ 78
 key_head_most table prev key target word =
-    omega (arith, name_most table word, length-append (name_bytes table) (lsn_bytes prev ++ (number 1 key ++ number 5 target)), length-append (lsn_bytes prev) (number 1 key ++ number 5 target), length-lsn_bytes prev,
-        length-append (number 1 key) (number 5 target), length-number 1 key, length-number 5 target)
+    omega (
+      arith,
+      name_most table word,
+      length-append (name_bytes table) (lsn_bytes prev ++ (number 1 key ++ number 5 target)),
+      length-append (lsn_bytes prev) (number 1 key ++ number 5 target),
+      length-lsn_bytes prev,
+      length-append (number 1 key) (number 5 target),
+      length-number 1 key,
+      length-number 5 target,
+    )
 
 -- ---- edits
 
@@ -91,14 +106,30 @@ edits_most (e ∷ edits) within = omega (arith, edit_most e within.0, edits_most
 -- what stands in front of a body
 pub length-record : (r : Record) → length (record_bytes r) ≡ 5 + length (body_bytes r)
 length-record r =
-    omega (arith, length-append (number 1 (kind_byte (kind_of r))) (number 4 (length (body_bytes r)) ++ body_bytes r), length-append (number 4 (length (body_bytes r))) (body_bytes r),
-        length-number 1 (kind_byte (kind_of r)), length-number 4 (length (body_bytes r)))
+    omega (
+      arith,
+      length-append (number 1 (kind_byte (kind_of r))) (number 4 (length (body_bytes r)) ++ body_bytes r),
+      length-append (number 4 (length (body_bytes r))) (body_bytes r),
+      length-number 1 (kind_byte (kind_of r)),
+      length-number 4 (length (body_bytes r)),
+    )
 
 pub redo_most : (kind : RedoKind) (table : List ℕ) (part : Part) (page : ℕ) (edits : List Edit) → IsTrue (is_word table) → length (record_bytes (Redo kind table part page edits)) ≤ redo_size edits
 redo_most kind table part page edits word =
     let list : List ℕ = list_bytes edit_bytes edits in
-    omega (arith, length-record (Redo kind table part page edits), name_most table word, length-append (name_bytes table) (part_bytes part ++ (number 4 page ++ list)), length-append (part_bytes part) (number 4 page ++ list), length-part part,
-        length-append (number 4 page) list, length-number 4 page, length-append (number 1 (length edits)) (flat_map edit_bytes edits), length-number 1 (length edits), length-edits edits)
+    omega (
+      arith,
+      length-record (Redo kind table part page edits),
+      name_most table word,
+      length-append (name_bytes table) (part_bytes part ++ (number 4 page ++ list)),
+      length-append (part_bytes part) (number 4 page ++ list),
+      length-part part,
+      length-append (number 4 page) list,
+      length-number 4 page,
+      length-append (number 1 (length edits)) (flat_map edit_bytes edits),
+      length-number 1 (length edits),
+      length-edits edits,
+    )
 
 pub redo_low : (edits : List Edit) → AllByRecursion IsWithin edits → length edits < 256 → redo_size edits ≤ 2 ^ 22
 redo_low edits within few = omega (arith, edits_most edits within)
@@ -112,8 +143,15 @@ last_most table prev (last.KeyInsert key target entry) word =
 last_most table prev (last.KeyDelete key target entry) word =
     omega (arith, length-record (last_record table prev (last.KeyDelete key target entry)), key_head_most table prev key target word, length-append (key_head table prev key target) entry)
 last_most table prev (last.Clr undone next) word =
-    omega (arith, length-record (last_record table prev (last.Clr undone next)), name_most table word, length-append (name_bytes table) (lsn_bytes undone ++ lsn_bytes next), length-append (lsn_bytes undone) (lsn_bytes next),
-        length-lsn_bytes undone, length-lsn_bytes next)
+    omega (
+      arith,
+      length-record (last_record table prev (last.Clr undone next)),
+      name_most table word,
+      length-append (name_bytes table) (lsn_bytes undone ++ lsn_bytes next),
+      length-append (lsn_bytes undone) (lsn_bytes next),
+      length-lsn_bytes undone,
+      length-lsn_bytes next,
+    )
 
 pub last_low : (ending : Last) → LastFits ending → last_size ending ≤ 2 ^ 22
 last_low (last.RowInsert places) fits = omega arith
@@ -131,8 +169,14 @@ last_fits table prev (last.Clr undone next) word before fits = record { word = w
 
 pub create_most : (table : List ℕ) (plain : Bool) (definition : List ℕ) (format : ℕ) → IsTrue (is_word table) → length (record_bytes (CreateTable table plain definition format)) ≤ 71 + length definition
 create_most table plain definition format word =
-    omega (arith, length-record (CreateTable table plain definition format), name_most table word, length-append (name_bytes table ++ number 1 (table_number plain format)) definition,
-        length-append (name_bytes table) (number 1 (table_number plain format)), length-number 1 (table_number plain format))
+    omega (
+      arith,
+      length-record (CreateTable table plain definition format),
+      name_most table word,
+      length-append (name_bytes table ++ number 1 (table_number plain format)) definition,
+      length-append (name_bytes table) (number 1 (table_number plain format)),
+      length-number 1 (table_number plain format),
+    )
 
 pub commit_most : length (record_bytes Commit) ≤ 5
 commit_most = omega (arith, length-record Commit)

@@ -1,8 +1,8 @@
 -- What the calls of a writer do.
-use Rattle.std.proofs.Common.{◌≡◌, ℕ, suc, ◌+◌, ◌*◌, ◌^◌, ◌<◌, ◌≤◌, false, List, [], ◌∷◌, ◌++◌, length, take, drop, refl, sym, ap, subst, ◌∙◌, append_assoc, arith, length-append, length-drop}
+use Rattle.std.proofs.Common.{◌≡◌, ℕ, ◌+◌, ◌^◌, ◌<◌, ◌≤◌, List, [], ◌∷◌, ◌++◌, length, take, drop, sym, ap, subst, ◌∙◌, append_assoc, arith, length-append, length-drop}
 use Rattle.std.specs.Prelude.{IsTrue}
 use Rattle.std.specs.List.{flat_map, AllByRecursion}
-use Rattle.std.proofs.lemmas.List.{append-nil, take_at, drop_at, drop-append-le, length-take}
+use Rattle.std.proofs.lemmas.List.{append-nil, drop_at, drop-append-le, length-take}
 use Rattle.std.proofs.lemmas.List.Concat.{flat_map-cons}
 use Rattle.std.proofs.lemmas.Grind.{flat_map-append}
 use Rattle.aria_page.specs.Items.{items_at}
@@ -104,7 +104,7 @@ still_writes writer new records w is count =
     let front : List ℕ = number 4 (1 + length (drop 5 writer.bytes)) ++ number 1 writer.count in
     let long : length front ≡ 5 = omega (arith, length-append (number 4 (1 + length (drop 5 writer.bytes))) (number 1 writer.count), length-number 4 (1 + length (drop 5 writer.bytes)), length-number 1 writer.count) in
     let same : drop 5 new.bytes ≡ drop 5 writer.bytes =
-        ap (drop 5) (is ∙ sym (append_assoc (number 4 (1 + length (drop 5 writer.bytes))) (number 1 writer.count) (drop 5 writer.bytes))) ∙ drop_at front (drop 5 writer.bytes) 5 long in
+    ap (drop 5) (is ∙ sym (append_assoc (number 4 (1 + length (drop 5 writer.bytes))) (number 1 writer.count) (drop 5 writer.bytes))) ∙ drop_at front (drop 5 writer.bytes) 5 long in
     record { spelled = same ∙ w.spelled; count = count ∙ w.count; each = w.each; size = omega (arith, ap (λ (l : List ℕ). length l) same, w.size, count) }
 
 -- A group has entries, so it is longer than the places, and not longer than what the places can tell.

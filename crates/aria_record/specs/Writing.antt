@@ -81,7 +81,7 @@ read_all (Some x) = x.0
 unfoldable pub records_of : GroupWriter → List Record
 records_of writer = read_all (items_at read_record writer.count (drop 5 writer.bytes))
 
--- No call has failed since the writer was cleared.
+-- The bytes are those of records, so no call has failed since the writer was cleared.
 abbrev pub IsWriting : GroupWriter → Type 0
 IsWriting writer = Writes writer (records_of writer)
 

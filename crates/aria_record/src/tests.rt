@@ -1,7 +1,12 @@
 //! Groups of the log, byte by byte.
 
+ghost use Rattle.std.specs.Prelude.{◌<◌};
+ghost use Rattle.aria_page.specs.Lsn.{IsLsn};
+ghost use Rattle.aria_record.specs.Writing.{LastFits};
+
 use super::*;
-use aria_page::{Edit, Lsn, Name, Part, RedoKind};
+use aria_page::{BODY_BYTES, Change, Edit, Last, List, Lsn, Name, Part, Place, Places, RedoKind};
+use aria_value::decode_definition;
 use std::alloc::{AllocError, Global};
 
 const COMMIT: [u8; 10] = *b"\0\0\0\x06\x01\x0F\0\0\0\0";
@@ -182,5 +187,193 @@ fn groups_of_the_wrong_shape_or_with_numbers_too_large(rt: HostRuntime) -> Resul
     ] {
         assert!(rt; !spells_a_group(alloc, bytes)?);
     }
+    Ok(())
+}
+
+// The group of CLEARED.
+fn write_cleared(writer: &mut GroupWriter, table: &Name) -> Result<(), AllocError>
+    requires { writer.old.count < 200 }
+{
+    let edits = [Change::Set {
+        at: 19,
+        bytes: b"\x09".as_slice(),
+    }];
+    writer.push_redo(RedoKind::Index, table, Part::Keys, 5, &edits)?;
+    let last = Last::Clr {
+        undone: Lsn {
+            file: 1,
+            offset: 16,
+        },
+        next: Lsn { file: 0, offset: 0 },
+    };
+    writer.push_last(table, Lsn { file: 0, offset: 0 }, &last)
+}
+
+// A whole body and a shift of bytes, and then the group of CLEARED.
+fn write_edits(
+    writer: &mut GroupWriter,
+    table: &Name,
+    body: &[u8; BODY_BYTES],
+) -> Result<(), AllocError>
+    requires { writer.old.count < 100 }
+{
+    let edits = [
+        Change::Whole {
+            body: body.as_slice(),
+        },
+        Change::Shift {
+            at: 1,
+            len: 2,
+            to: 3,
+        },
+    ];
+    writer.push_redo(RedoKind::InsertRowHead, table, Part::Rows, 7, &edits)?;
+    write_cleared(writer, table)
+}
+
+#[test]
+fn a_group_of_edits_put_together(rt: HostRuntime) -> Result<(), AllocError> {
+    let alloc = rt.alloc();
+    let Some(table) = Name::read(b"t") else {
+        return Ok(());
+    };
+    let mut writer = GroupWriter::new(alloc)?;
+    write_edits(&mut writer, &table, &[7; BODY_BYTES])?;
+    let size = writer.len();
+    assert_eq!(rt; size, 8247);
+    assert!(rt; is_read_again(alloc, writer.finish(), size)?);
+    Ok(())
+}
+
+#[test]
+fn groups_put_together_one_after_another(rt: HostRuntime) -> Result<(), AllocError> {
+    let alloc = rt.alloc();
+    let Some(table) = Name::read(b"t") else {
+        return Ok(());
+    };
+    let mut writer = GroupWriter::new(alloc)?;
+    assert!(rt; writer.is_empty());
+    write_cleared(&mut writer, &table)?;
+    assert_eq!(rt; writer.len(), 45);
+    assert_eq!(rt; writer.finish(), CLEARED.as_slice());
+    writer.clear();
+    assert!(rt; writer.is_empty());
+    writer.push_commit()?;
+    assert_eq!(rt; writer.finish(), COMMIT.as_slice());
+    writer.clear();
+    writer.push_drop(&table)?;
+    assert_eq!(rt;
+        writer.finish(),
+        b"\0\0\0\x08\x01\x12\0\0\0\x02\x01t".as_slice()
+    );
+    Ok(())
+}
+
+// Whether a table that is made with this definition is written so.
+fn writes_table(
+    writer: &mut GroupWriter,
+    alloc: Global,
+    table: &Name,
+    definition: &[u8],
+    bytes: &[u8],
+) -> Result<bool, AllocError> {
+    if definition.len() > 100 {
+        return Ok(false);
+    }
+    match decode_definition(alloc, definition)? {
+        None => Ok(false),
+        Some(_) => {
+            writer.clear();
+            writer.push_create(table, true, definition, 2)?;
+            Ok(writer.finish() == bytes)
+        }
+    }
+}
+
+// Whether what ends a group is written so.
+fn writes_last(
+    writer: &mut GroupWriter,
+    table: &Name,
+    prev: Lsn,
+    last: &Last,
+    bytes: &[u8],
+) -> Result<bool, AllocError>
+    requires prev { IsLsn prev }
+    requires last { LastFits last.now }
+{
+    writer.clear();
+    writer.push_last(table, prev, last)?;
+    Ok(writer.finish() == bytes)
+}
+
+// Whether a row put in with a tail and three blob pages, and one of two bytes taken out, are written as they are read.
+fn writes_rows(writer: &mut GroupWriter, alloc: Global, table: &Name) -> Result<bool, AllocError> {
+    let head = Place { page: 1, slot: 2 };
+    let prev = Lsn {
+        file: 1,
+        offset: 16,
+    };
+    let put = Last::RowInsert {
+        places: Places {
+            head,
+            tail: Some(Place { page: 2, slot: 1 }),
+            blob: 3,
+            blobs: 3,
+        },
+    };
+    let bytes =
+        b"\0\0\0\x1E\x01\x0A\0\0\0\x18\x01t\0\0\x01\0\0\0\x10\0\0\0\x01\x02\0\0\0\x02\x01\0\0\0\x03\x03".as_slice();
+    let one = writes_last(writer, table, prev, &put, bytes)?;
+    let taken = Last::RowDelete {
+        places: Places {
+            head,
+            tail: None,
+            blob: 0,
+            blobs: 0,
+        },
+        row: List::from_slice(alloc, b"ab")?,
+    };
+    let bytes =
+        b"\0\0\0\x20\x01\x0B\0\0\0\x1A\x01t\0\0\x01\0\0\0\x10\0\0\0\x01\x02\0\0\0\0\0\0\0\0\0\0ab".as_slice();
+    Ok(one && writes_last(writer, table, prev, &taken, bytes)?)
+}
+
+// Whether an entry put into key 7, and one taken out of key 0, are written as they are read.
+fn writes_keys(writer: &mut GroupWriter, alloc: Global, table: &Name) -> Result<bool, AllocError> {
+    let put = Last::KeyInsert {
+        key: 7,
+        target: 0xFF_0000_0102,
+        entry: List::from_slice(alloc, b"a")?,
+    };
+    let prev = Lsn {
+        file: 1,
+        offset: 16,
+    };
+    let bytes =
+        b"\0\0\0\x16\x01\x0C\0\0\0\x10\x01t\0\0\x01\0\0\0\x10\x07\xFF\0\0\x01\x02a".as_slice();
+    let one = writes_last(writer, table, prev, &put, bytes)?;
+    let taken = Last::KeyDelete {
+        key: 0,
+        target: 0x102,
+        entry: List::new(alloc),
+    };
+    let bytes = b"\0\0\0\x15\x01\x0D\0\0\0\x0F\x01t\0\0\0\0\0\0\0\0\0\0\0\x01\x02".as_slice();
+    Ok(one && writes_last(writer, table, Lsn { file: 0, offset: 0 }, &taken, bytes)?)
+}
+
+#[test]
+fn each_kind_of_entry_is_written(rt: HostRuntime) -> Result<(), AllocError> {
+    let alloc = rt.alloc();
+    let Some(table) = Name::read(b"t") else {
+        return Ok(());
+    };
+    let mut writer = GroupWriter::new(alloc)?;
+    assert!(rt; writes_rows(&mut writer, alloc, &table)?);
+    assert!(rt; writes_keys(&mut writer, alloc, &table)?);
+    let definition =
+        b"\x02\x02id\0\0\0\0\0\x04name\x01\0\0\0\x14\x02\x02k1\x01\0\x02k2\x01\x01\x01\0\0\0".as_slice();
+    let bytes =
+        b"\0\0\0\x2B\x01\x11\0\0\0\x25\x01t\x03\x02\x02id\0\0\0\0\0\x04name\x01\0\0\0\x14\x02\x02k1\x01\0\x02k2\x01\x01\x01\0\0\0".as_slice();
+    assert!(rt; writes_table(&mut writer, alloc, &table, definition, bytes)?);
     Ok(())
 }

@@ -1,4 +1,4 @@
-use Rattle.std.proofs.Common.{sym, refl, lit≤}
+use Rattle.std.proofs.Common.{sym, lit≤}
 use Rattle.std.proofs.lemmas.List.{append-nil}
 use Rattle.aria_record.specs.declared.record.Record.TheVariants.{Commit}
 use Rattle.aria_record.proofs.Sizes.{commit_most, body_low}
