@@ -5,3 +5,4 @@ pub mod Parts
 pub mod Records
 pub mod Sizes
 pub mod Writers
+pub mod InPlaces

@@ -4,3 +4,4 @@ pub mod Groups
 pub mod Reading
 pub mod Logged
 pub mod Writing
+pub mod InPlace

@@ -1,6 +1,6 @@
 //! Edits of pages: a byte for the kind, and what the edit needs.
 
-ghost use Rattle.std.specs.Prelude.{◌≡◌, ◌^◌, ◌<◌, ◌++◌, length, All, IfOk, OnOk};
+ghost use Rattle.std.specs.Prelude.{◌≡◌, ◌^◌, ◌<◌, ◌++◌, length, All, IfSome, IfOk, OnOk};
 ghost use Rattle.std.specs.List.{flat_map};
 ghost use Rattle.aria_page.specs.Change.{edit_of, edits_of};
 ghost use Rattle.aria_page.specs.Edit.{IsWithin};
@@ -40,49 +40,40 @@ fn push_shift(out: &mut Bytes, at: u16, len: u16, to: u16) -> Result<(), AllocEr
 }
 
 #[tactic(auto, unfolding(crate::specs::Reading::read_set, crate::specs::Reading::read_as, crate::specs::Reading::read_both))]
-fn set_at(alloc: Global, bytes: &[u8]) -> Result<Option<(Edit, &[u8])>, AllocError>
-    ensures { IfOk result (λ r. Gives (λ x. (x.0, x.1.now)) r (read_set bytes.now)) }
+fn set_at(bytes: &[u8]) -> Option<(Change<'_>, &[u8])>
+    ensures read { Gives (λ x. (edit_of x.0, x.1.now)) result (read_set bytes.now) }
+    ensures within { IfSome result (λ x. IsWithin (edit_of x.0)) }
 {
-    match u16_at(bytes) {
-        None => Ok(None),
-        Some((at, rest)) => match counted_u16_at(rest) {
-            None => Ok(None),
-            Some((text, rest)) => {
-                if text.len() > BODY_BYTES || at as usize + text.len() > BODY_BYTES {
-                    return Ok(None);
-                }
-                let bytes = List::from_slice(alloc, text)?;
-                Ok(Some((Edit::Set { at, bytes }, rest)))
-            }
-        },
+    let (at, rest) = u16_at(bytes)?;
+    let (bytes, rest) = counted_u16_at(rest)?;
+    if bytes.len() > BODY_BYTES || at as usize + bytes.len() > BODY_BYTES {
+        return None;
     }
+    Some((Change::Set { at, bytes }, rest))
 }
 
 #[tactic(auto, unfolding(crate::specs::Reading::read_shift, crate::specs::Reading::read_as, crate::specs::Reading::read_both))]
-fn shift_at(bytes: &[u8]) -> Option<(Edit, &[u8])>
-    ensures { Gives (λ x. (x.0, x.1.now)) result (read_shift bytes.now) }
+fn shift_at(bytes: &[u8]) -> Option<(Change<'_>, &[u8])>
+    ensures read { Gives (λ x. (edit_of x.0, x.1.now)) result (read_shift bytes.now) }
+    ensures within { IfSome result (λ x. IsWithin (edit_of x.0)) }
 {
     let (at, rest) = u16_at(bytes)?;
     let (len, rest) = u16_at(rest)?;
     let (to, rest) = u16_at(rest)?;
     if at as usize + len as usize <= BODY_BYTES && to as usize + len as usize <= BODY_BYTES {
-        Some((Edit::Shift { at, len, to }, rest))
+        Some((Change::Shift { at, len, to }, rest))
     } else {
         None
     }
 }
 
 #[tactic(auto, unfolding(crate::specs::Reading::read_body_edit, crate::specs::Reading::read_as))]
-fn whole_at(alloc: Global, bytes: &[u8]) -> Result<Option<(Edit, &[u8])>, AllocError>
-    ensures { IfOk result (λ r. Gives (λ x. (x.0, x.1.now)) r (read_body_edit bytes.now)) }
+fn whole_at(bytes: &[u8]) -> Option<(Change<'_>, &[u8])>
+    ensures read { Gives (λ x. (edit_of x.0, x.1.now)) result (read_body_edit bytes.now) }
+    ensures within { IfSome result (λ x. IsWithin (edit_of x.0)) }
 {
-    match bytes_at(bytes, BODY_BYTES) {
-        None => Ok(None),
-        Some((body, rest)) => {
-            let body = List::from_slice(alloc, body)?;
-            Ok(Some((Edit::Whole { body }, rest)))
-        }
-    }
+    let (body, rest) = bytes_at(bytes, BODY_BYTES)?;
+    Some((Change::Whole { body }, rest))
 }
 
 // The edit with its bytes lent.
@@ -165,16 +156,47 @@ pub(crate) fn push_all_changes(out: &mut Bytes, edits: &[Change<'_>]) -> Result<
     push_changes(out, edits)
 }
 
-// The edit in front, and the bytes after it.
+// The edit in front with its bytes lent, and the bytes after it.
 #[tactic(auto, unfolding(crate::specs::Reading::read_edit))]
+pub(crate) fn change_at(bytes: &[u8]) -> Option<(Change<'_>, &[u8])>
+    ensures read { Gives (λ x. (edit_of x.0, x.1.now)) result (read_edit bytes.now) }
+    ensures within { IfSome result (λ x. IsWithin (edit_of x.0)) }
+{
+    match bytes {
+        [0, rest @ ..] => set_at(rest),
+        [1, rest @ ..] => shift_at(rest),
+        [2, rest @ ..] => whole_at(rest),
+        _ => None,
+    }
+}
+
+// The edit with copies of its bytes.
+fn owned(alloc: Global, edit: Change<'_>) -> Result<Edit, AllocError>
+    ensures { IfOk result (λ owned. owned ≡ edit_of edit.entry) }
+{
+    match edit {
+        Change::Set { at, bytes } => {
+            let bytes = List::from_slice(alloc, bytes)?;
+            Ok(Edit::Set { at, bytes })
+        }
+        Change::Shift { at, len, to } => Ok(Edit::Shift { at, len, to }),
+        Change::Whole { body } => {
+            let body = List::from_slice(alloc, body)?;
+            Ok(Edit::Whole { body })
+        }
+    }
+}
+
+// The edit in front, and the bytes after it.
 fn edit_at(alloc: Global, bytes: &[u8]) -> Result<Option<(Edit, &[u8])>, AllocError>
     ensures { IfOk result (λ r. Gives (λ x. (x.0, x.1.now)) r (read_edit bytes.now)) }
 {
-    match bytes {
-        [0, rest @ ..] => set_at(alloc, rest),
-        [1, rest @ ..] => Ok(shift_at(rest)),
-        [2, rest @ ..] => whole_at(alloc, rest),
-        _ => Ok(None),
+    match change_at(bytes) {
+        None => Ok(None),
+        Some((edit, rest)) => {
+            let edit = owned(alloc, edit)?;
+            Ok(Some((edit, rest)))
+        }
     }
 }
 

@@ -10,6 +10,7 @@
 #![tactic(auto)]
 
 mod edit_codec;
+mod entries;
 mod entry_codec;
 mod field_codec;
 mod group;
@@ -19,6 +20,7 @@ mod record;
 mod record_codec;
 mod record_kind;
 
+pub use entries::{Edits, Entries, Entry};
 pub use group::Group;
 pub use group_codec::{decode_group, encode_group};
 pub use group_writer::GroupWriter;
