@@ -377,3 +377,61 @@ fn each_kind_of_entry_is_written(rt: HostRuntime) -> Result<(), AllocError> {
     assert!(rt; writes_table(&mut writer, alloc, &table, definition, bytes)?);
     Ok(())
 }
+
+// Whether the edits are those of CLEARED.
+fn are_cleared_edits(edits: Edits<'_>) -> bool {
+    match edits.split_first() {
+        None => false,
+        Some((edit, others)) => match edit {
+            Change::Set { at, bytes } => {
+                at == 19 && bytes == b"\x09".as_slice() && others.split_first().is_none()
+            }
+            _ => false,
+        },
+    }
+}
+
+// Whether the entry is the edits of CLEARED.
+fn is_cleared_redo(entry: Entry<'_>) -> bool {
+    match entry {
+        Entry::Redo {
+            kind,
+            part,
+            page,
+            edits,
+            ..
+        } => {
+            kind == RedoKind::Index && part == Part::Keys && page == 5 && are_cleared_edits(edits)
+        }
+        Entry::Other { .. } => false,
+    }
+}
+
+// Whether the entry is what ends CLEARED.
+fn is_cleared_end(entry: Entry<'_>) -> bool {
+    match entry {
+        Entry::Redo { .. } => false,
+        Entry::Other { kind, body } => kind == RecordKind::ClrEnd && body.len() == 16,
+    }
+}
+
+fn are_cleared(entries: Entries<'_>) -> bool {
+    match entries.split_first() {
+        None => false,
+        Some((first, others)) => match others.split_first() {
+            None => false,
+            Some((second, others)) => {
+                is_cleared_redo(first) && is_cleared_end(second) && others.split_first().is_none()
+            }
+        },
+    }
+}
+
+#[test]
+fn entries_as_they_lie(rt: HostRuntime) {
+    assert!(rt; Entries::of(&CLEARED[..44]).is_none());
+    match Entries::of(&CLEARED) {
+        None => assert!(rt; false),
+        Some(entries) => assert!(rt; are_cleared(entries)),
+    }
+}
