@@ -391,27 +391,24 @@ fn are_cleared_edits(edits: Edits<'_>) -> bool {
     }
 }
 
-// Whether the entry is the edits of CLEARED.
-fn is_cleared_redo(entry: Entry<'_>) -> bool {
+// The kind of an entry, if it is as in CLEARED.
+fn cleared_kind(entry: &Entry<'_>) -> Option<RecordKind> {
     match entry {
         Entry::Redo {
             kind,
+            table,
             part,
             page,
             edits,
-            ..
         } => {
-            kind == RedoKind::Index && part == Part::Keys && page == 5 && are_cleared_edits(edits)
+            let is_place = table.as_slice() == b"t".as_slice() && *part == Part::Keys && *page == 5;
+            if is_place && are_cleared_edits(*edits) {
+                Some(RecordKind::Redo(*kind))
+            } else {
+                None
+            }
         }
-        Entry::Other { .. } => false,
-    }
-}
-
-// Whether the entry is what ends CLEARED.
-fn is_cleared_end(entry: Entry<'_>) -> bool {
-    match entry {
-        Entry::Redo { .. } => false,
-        Entry::Other { kind, body } => kind == RecordKind::ClrEnd && body.len() == 16,
+        Entry::Other { kind, body } => { if body.len() == 16 { Some(*kind) } else { None } }
     }
 }
 
@@ -421,7 +418,9 @@ fn are_cleared(entries: Entries<'_>) -> bool {
         Some((first, others)) => match others.split_first() {
             None => false,
             Some((second, others)) => {
-                is_cleared_redo(first) && is_cleared_end(second) && others.split_first().is_none()
+                cleared_kind(&first) == Some(RecordKind::Redo(RedoKind::Index))
+                    && cleared_kind(&second) == Some(RecordKind::ClrEnd)
+                    && others.split_first().is_none()
             }
         },
     }
