@@ -5,8 +5,13 @@
 //! front of bytes, with its length (docs/FORMATS.md, "Groups"). No group's bytes begin another's. Bytes in
 //! front of which no group stands are `None`, whatever they are, and the only failure is want of memory.
 //!
+//! A `GroupWriter` puts a group's bytes together entry by entry, in a buffer that is used again, and `Entries`
+//! reads a group's entries and edits as they lie in its bytes. Neither builds a `Group`, and the reading takes
+//! no memory.
+//!
 //! `specs/Spelled.antt` says how groups are spelled, `specs/Groups.antt` which groups there are, and
-//! `specs/Reading.antt` how they are read.
+//! `specs/Reading.antt` how they are read; `specs/Writing.antt` what a writer has written, and
+//! `specs/InPlace.antt` what lies in bytes.
 #![tactic(auto)]
 
 mod edit_codec;
