@@ -1,0 +1,5 @@
+pub mod PageState
+pub mod Ending
+pub mod Calls
+pub mod Causes
+pub mod SetByte
