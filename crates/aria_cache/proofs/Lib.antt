@@ -1,1 +1,4 @@
+pub mod Blank
 pub mod Growing
+pub mod MemFiles
+pub mod MemNames

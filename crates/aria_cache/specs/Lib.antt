@@ -3,3 +3,5 @@ pub mod Ending
 pub mod Calls
 pub mod Causes
 pub mod SetByte
+pub mod MemFile
+pub mod MemPages
