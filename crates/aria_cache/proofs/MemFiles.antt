@@ -1,6 +1,6 @@
 -- Files in memory, by the names of their tables.
 use Rattle.std.proofs.Common.{◌≡◌, ◌∙◌, ◌==◌, ◌&&◌, ℕ, ◌+◌, max, Bool, true, false, cond, List, [], ◌∷◌, Option, None, Some, is_some, refl, sym, ap, subst, arith}
-use Rattle.std.specs.Prelude.{unwrap_or, nat_lt}
+use Rattle.std.specs.Prelude.{unwrap_or}
 use Rattle.std.specs.Map.{lookup}
 use Rattle.std.specs.Cmp.{unsigned_ties}
 use Rattle.std.specs.Cmp.Lexicographic.{slice_cmp, pointwise, lists_ties, bytes_decides}
@@ -11,24 +11,17 @@ use Rattle.aria_page.specs.declared.place.Part.{Part}
 use Rattle.aria_page.specs.declared.place.Part.TheVariants as parts
 use Rattle.aria_page.specs.Edit.{all_edited}
 use Rattle.aria_cache.specs.declared.mem_file.MemFile.{MemFile}
-use Rattle.aria_cache.specs.MemFile.{zero_body, bitmap_body, is_map, blank_body, kept_body, file_body, file_count, EditsFile, SameFile}
-use Rattle.aria_cache.specs.MemPages.{Files, file_in, EditsIn, SameIn}
+use Rattle.aria_cache.specs.MemFile.{zero_body, blank_body, kept_body, file_body, file_count, EditsFile, SameFile}
+use Rattle.aria_cache.specs.MemPages.{Files, file_in, EditsIn, SetsIn, SameIn}
+use Rattle.aria_cache.proofs.Blank.{blank_behind}
 
 -- the test of a map by names is equality
 same_name : (a b : List ℕ) → is_at (slice_cmp nat_cmp a) b ≡ pointwise ◌==◌ a b
 same_name a b = sym (lists_ties nat_cmp unsigned_ties a b)
 
-neither : (b : Bool) (x y : List ℕ) → cond (b && false) x y ≡ y
-neither true x y = refl
-neither false x y = refl
-
 -- a file without a page is as one that isn't there
 empty_body : (part : Part) (file : MemFile) → file.set ≡ 0 → ((n : ℕ) → kept_body file n ≡ None) → (q : ℕ) → file_body part (Some file) q ≡ zero_body
-empty_body part file set none q = ap (λ (o : Option (List ℕ)). unwrap_or o (blank_body part file.set q)) (none q) ∙ ap (λ (n : ℕ). blank_body part n q) set
-    ∙ ap (λ (b : Bool). cond (is_map part q && b) bitmap_body zero_body) low ∙ neither (is_map part q) bitmap_body zero_body
-  where
-    low : nat_lt q 0 ≡ false
-    low = grind arith
+empty_body part file set none q = ap (λ (o : Option (List ℕ)). unwrap_or o (blank_body part file.set q)) (none q) ∙ blank_behind part file.set q (omega (arith, set))
 
 module _ (part : Part) (old new : Files) (name : List ℕ) (w : MemFile)
     (put : (m : List ℕ) → file_in new m ≡ cond (is_at (slice_cmp nat_cmp name) m) (Some w) (file_in old m)) where
@@ -49,6 +42,7 @@ module _ (part : Part) (old new : Files) (name : List ℕ) (w : MemFile)
           → file_body part (cond b (Some w) (file_in old m)) q ≡ cond (b && (number == q)) (all_edited edits (file_body part (file_in old m) q)) (file_body part (file_in old m) q)
       body m q true there = is.bodies q ∙ ap (λ (o : Option MemFile). cond (number == q) (all_edited edits (file_body part o q)) (file_body part o q)) (sym (there refl))
       body m q false there = refl
+
       count : (m : List ℕ) (b : Bool) → (b ≡ true → file_in old m ≡ Some f) → file_count (cond b (Some w) (file_in old m)) ≡ cond b (max (file_count (file_in old m)) (number + 1)) (file_count (file_in old m))
       count m true there = is.count ∙ ap (λ (o : Option MemFile). max (file_count o) (number + 1)) (sym (there refl))
       count m false there = refl
@@ -64,6 +58,7 @@ module _ (part : Part) (old new : Files) (name : List ℕ) (w : MemFile)
       body m q true there = ap (λ (o : Option (List ℕ)). unwrap_or o (blank_body part w.set q)) (is.pages q) ∙ ap (λ (n : ℕ). unwrap_or (kept_body f q) (blank_body part n q)) is.set
           ∙ ap (λ (o : Option MemFile). file_body part o q) (sym (there refl))
       body m q false there = refl
+
       count : (m : List ℕ) (b : Bool) → (b ≡ true → file_in old m ≡ Some f) → file_count (cond b (Some w) (file_in old m)) ≡ file_count (file_in old m)
       count m true there = is.count ∙ ap file_count (sym (there refl))
       count m false there = refl
@@ -78,6 +73,7 @@ module _ (part : Part) (old new : Files) (name : List ℕ) (w : MemFile)
       body : (m : List ℕ) (q : ℕ) (b : Bool) → (b ≡ true → file_in old m ≡ None) → file_body part (cond b (Some w) (file_in old m)) q ≡ file_body part (file_in old m) q
       body m q true there = empty_body part w set empty q ∙ ap (λ (o : Option MemFile). file_body part o q) (sym (there refl))
       body m q false there = refl
+
       count : (m : List ℕ) (b : Bool) → (b ≡ true → file_in old m ≡ None) → file_count (cond b (Some w) (file_in old m)) ≡ file_count (file_in old m)
       count m true there = none ∙ ap file_count (sym (there refl))
       count m false there = refl
@@ -87,3 +83,22 @@ same_entries part old new is = record {
   bodies = λ m q. ap (λ (es : List (List ℕ × MemFile)). file_body part (lookup (is_at (slice_cmp nat_cmp m)) es) q) is;
   counts = λ m. ap (λ (es : List (List ℕ × MemFile)). file_count (lookup (is_at (slice_cmp nat_cmp m)) es)) is;
 }
+
+-- the number of pages of a file is set
+pub put_set : (part : Part) (old new : Files) (name : List ℕ) (w : MemFile) (pages : ℕ) → ((m : List ℕ) → file_in new m ≡ cond (is_at (slice_cmp nat_cmp name) m) (Some w) (file_in old m))
+    → w.set ≡ pages → w.count ≡ pages → ((n : ℕ) → kept_body w n ≡ None) → SetsIn part name pages old new
+put_set part old new name w pages put set count none = record {
+  bodies = λ m q. ap (λ (o : Option MemFile). file_body part o q) (at m) ∙ body m q (pointwise ◌==◌ name m);
+  counts = λ m. ap file_count (at m) ∙ number m (pointwise ◌==◌ name m);
+}
+  where
+    at : (m : List ℕ) → file_in new m ≡ cond (pointwise ◌==◌ name m) (Some w) (file_in old m)
+    at m = put m ∙ ap (λ (b : Bool). cond b (Some w) (file_in old m)) (same_name name m)
+
+    body : (m : List ℕ) (q : ℕ) (b : Bool) → file_body part (cond b (Some w) (file_in old m)) q ≡ cond b (blank_body part pages q) (file_body part (file_in old m) q)
+    body m q true = ap (λ (o : Option (List ℕ)). unwrap_or o (blank_body part w.set q)) (none q) ∙ ap (λ (n : ℕ). blank_body part n q) set
+    body m q false = refl
+
+    number : (m : List ℕ) (b : Bool) → file_count (cond b (Some w) (file_in old m)) ≡ cond b pages (file_count (file_in old m))
+    number m true = count
+    number m false = refl

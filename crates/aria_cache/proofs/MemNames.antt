@@ -16,6 +16,7 @@ digits n low = decimal_by_steps (λ n ds. list_all continues_word ds ≡ true) o
   where
     one : (n : ℕ) → n < 10 → list_all continues_word ((48 + n) ∷ []) ≡ true
     one n small = rw (digit n small) refl
+
     more : (n : ℕ) (ds : List ℕ) → 10 ≤ n → list_all continues_word ds ≡ true → list_all continues_word (ds ++ ((48 + n % 10) ∷ [])) ≡ true
     more n ds large each = list_all-append continues_word (ds) ((48 + n % 10) ∷ []) ∙ ap (λ (b : Bool). b && list_all continues_word ((48 + n % 10) ∷ [])) each ∙ one (n % 10) (omega arith)
 

@@ -11,9 +11,10 @@ use Rattle.aria_page.specs.Edit.{all_edited}
 use Rattle.aria_page.specs.Page.{page_body}
 use Rattle.aria_host.specs.declared.file_name.FileName.{FileName}
 use Rattle.aria_host.specs.declared.file_name.FileName.TheVariants.{Control, Log, Keys, Rows, NewKeys, NewRows}
+use Rattle.aria_host.specs.Folder.{same_file}
 use Rattle.aria_cache.specs.declared.mem_file.MemFile.{MemFile}
 use Rattle.aria_cache.specs.declared.mem_pages.MemPages.{MemPages}
-use Rattle.aria_cache.specs.MemFile.{zero_body, file_body, file_count}
+use Rattle.aria_cache.specs.MemFile.{zero_body, blank_body, file_body, file_count}
 use Rattle.aria_cache.specs.PageState.{Bodies, Counts, PageState}
 
 -- the name of the table of a slot
@@ -33,7 +34,12 @@ pub record EditsIn (part : Part) (name : List ℕ) (number : ℕ) (edits : List 
   pub bodies : (m : List ℕ) (q : ℕ) → file_body part (file_in new m) q ≡ (if pointwise ◌==◌ name m && (number == q) then all_edited edits (file_body part (file_in old m) q) else file_body part (file_in old m) q)
   pub counts : (m : List ℕ) → file_count (file_in new m) ≡ (if pointwise ◌==◌ name m then max (file_count (file_in old m)) (number + 1) else file_count (file_in old m))
 
--- none is
+-- the number of pages of a file is set, and none is edited
+pub record SetsIn (part : Part) (name : List ℕ) (pages : ℕ) (old new : Files) : Type 0 where
+  pub bodies : (m : List ℕ) (q : ℕ) → file_body part (file_in new m) q ≡ (if pointwise ◌==◌ name m then blank_body part pages q else file_body part (file_in old m) q)
+  pub counts : (m : List ℕ) → file_count (file_in new m) ≡ (if pointwise ◌==◌ name m then pages else file_count (file_in old m))
+
+-- no page is edited
 pub record SameIn (part : Part) (old new : Files) : Type 0 where
   pub bodies : (m : List ℕ) (q : ℕ) → file_body part (file_in new m) q ≡ file_body part (file_in old m) q
   pub counts : (m : List ℕ) → file_count (file_in new m) ≡ file_count (file_in old m)
@@ -85,3 +91,19 @@ pub record AreFiles (counts : Counts) (bodies : Bodies) : Type 0 where
 -- what holds of pages in memory
 abbrev pub MemStands : MemPages → Type 0
 MemStands pages = AreFiles (counts_in pages.keys pages.rows) (bodies_in pages.keys pages.rows)
+
+-- a file's number of pages is set
+abbrev pub counts_set : FileName → ℕ → Counts → Counts
+counts_set file pages counts = λ f. if same_file file f then pages else counts f
+
+-- its pages are as if they were never edited
+abbrev pub bodies_set : FileName → Part → ℕ → Bodies → Bodies
+bodies_set file part pages bodies = λ f n. if same_file file f then Some (blank_body part pages n) else bodies f n
+
+-- all but the files is as it was
+pub record SameRest (old new : MemPages) : Type 0 where
+  pub in_group : new.in_group ≡ old.in_group
+  pub edited : new.edited ≡ old.edited
+  pub fault : new.fault ≡ old.fault
+  pub loaded : new.loaded ≡ old.loaded
+  pub lent : new.lent ≡ old.lent

@@ -79,7 +79,14 @@ pub trait Pages {
 
     /// Edits a page, as part of the group. A page behind the file's end is zeros before. After a fault nothing is known
     /// of the group and of the pages: no call does anything more.
-    fn edit(&mut self, alloc: Global, group: &mut OpenGroup, at: PageId, why: RedoKind, edits: &[Change<'_>]) -> Result<(), Fault>
+    fn edit(
+        &mut self,
+        alloc: Global,
+        group: &mut OpenGroup,
+        at: PageId,
+        why: RedoKind,
+        edits: &[Change<'_>],
+    ) -> Result<(), Fault>
         requires stands { stands self.old }
         requires open { IsTrue ((state self.old).is_open at.slot) }
         requires group { (state self.old).in_group ≡ true }

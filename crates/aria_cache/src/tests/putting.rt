@@ -15,7 +15,14 @@ use aria_page::{Change, Last, Lsn, Part, RedoKind};
 use std::alloc::Global;
 
 // Puts a byte into the body of a page, as part of the open group.
-fn put_byte<P: Pages>(alloc: Global, pages: &mut P, group: &mut OpenGroup, at: PageId, place: u16, byte: u8) -> Result<(), Fault>
+fn put_byte<P: Pages>(
+    alloc: Global,
+    pages: &mut P,
+    group: &mut OpenGroup,
+    at: PageId,
+    place: u16,
+    byte: u8,
+) -> Result<(), Fault>
     requires stands { P.stands pages.old }
     requires open { IsTrue ((P.state pages.old).is_open at.slot) }
     requires group { (P.state pages.old).in_group ≡ true }
@@ -35,11 +42,27 @@ fn put_byte<P: Pages>(alloc: Global, pages: &mut P, group: &mut OpenGroup, at: P
     ensures in_group { (P.state pages.new).in_group ≡ true }
 {
     let bytes = [byte];
-    pages.edit(alloc, group, at, RedoKind::State, &[Change::Set { at: place, bytes: &bytes }])
+    pages.edit(
+        alloc,
+        group,
+        at,
+        RedoKind::State,
+        &[Change::Set {
+            at: place,
+            bytes: &bytes,
+        }],
+    )
 }
 
 /// Puts a byte into the body of a page, as a group of its own.
-pub fn set_byte<P: Pages>(alloc: Global, pages: &mut P, at: PageId, place: u16, byte: u8, last: &Last) -> Result<Lsn, Fault>
+pub(super) fn set_byte<P: Pages>(
+    alloc: Global,
+    pages: &mut P,
+    at: PageId,
+    place: u16,
+    byte: u8,
+    last: &Last,
+) -> Result<Lsn, Fault>
     requires stands { P.stands pages.old }
     requires open { IsTrue ((P.state pages.old).is_open at.slot) }
     requires none { (P.state pages.old).in_group ≡ false }
@@ -65,7 +88,12 @@ pub fn set_byte<P: Pages>(alloc: Global, pages: &mut P, at: PageId, place: u16, 
 }
 
 /// The byte at a place of the body of a page.
-pub fn byte_at<P: Pages>(alloc: Global, pages: &mut P, at: PageId, place: u16) -> Result<u8, Fault>
+pub(super) fn byte_at<P: Pages>(
+    alloc: Global,
+    pages: &mut P,
+    at: PageId,
+    place: u16,
+) -> Result<u8, Fault>
     requires stands { P.stands pages.old }
     requires open { IsTrue ((P.state pages.old).is_open at.slot) }
     requires below { at.page < (P.state pages.old).counts (file_of (P.state pages.old) at.slot at.part) }
@@ -82,7 +110,12 @@ pub fn byte_at<P: Pages>(alloc: Global, pages: &mut P, at: PageId, place: u16) -
 }
 
 // Loads two pages.
-fn load_both<P: Pages>(alloc: Global, pages: &mut P, one: PageId, other: PageId) -> Result<(), Fault>
+fn load_both<P: Pages>(
+    alloc: Global,
+    pages: &mut P,
+    one: PageId,
+    other: PageId,
+) -> Result<(), Fault>
     requires stands { P.stands pages.old }
     requires open_one { IsTrue ((P.state pages.old).is_open one.slot) }
     requires open_other { IsTrue ((P.state pages.old).is_open other.slot) }
@@ -99,7 +132,15 @@ fn load_both<P: Pages>(alloc: Global, pages: &mut P, one: PageId, other: PageId)
 }
 
 // Puts a byte into the bodies of two pages, as part of the open group.
-fn put_both<P: Pages>(alloc: Global, pages: &mut P, group: &mut OpenGroup, one: PageId, other: PageId, place: u16, byte: u8) -> Result<(), Fault>
+fn put_both<P: Pages>(
+    alloc: Global,
+    pages: &mut P,
+    group: &mut OpenGroup,
+    one: PageId,
+    other: PageId,
+    place: u16,
+    byte: u8,
+) -> Result<(), Fault>
     requires stands { P.stands pages.old }
     requires open_one { IsTrue ((P.state pages.old).is_open one.slot) }
     requires open_other { IsTrue ((P.state pages.old).is_open other.slot) }
