@@ -1,5 +1,9 @@
+pub mod Applied
 pub mod Blank
+pub mod Entries
 pub mod Growing
+pub mod Keys
 pub mod MemFiles
 pub mod MemNames
 pub mod MemStates
+pub mod Stamping

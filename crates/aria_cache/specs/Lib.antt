@@ -5,3 +5,5 @@ pub mod Causes
 pub mod SetByte
 pub mod MemFile
 pub mod MemPages
+pub mod Key
+pub mod Frames

@@ -41,11 +41,13 @@
 //! `MemPages` has pages in memory, without a log, for tests.
 #![tactic(auto)]
 
+mod frames;
 mod mem_file;
 mod mem_pages;
 mod page_id;
 mod pages;
 
+pub use frames::{Frame, Frames, MAX_PINS};
 pub use mem_pages::MemPages;
 pub use page_id::PageId;
 pub use pages::{OpenGroup, Pages};
