@@ -1,5 +1,7 @@
 pub mod Applied
+pub mod Applying
 pub mod Blank
+pub mod Causing
 pub mod Entries
 pub mod Growing
 pub mod Keys

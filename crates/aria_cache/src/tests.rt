@@ -1,1 +1,3 @@
+mod held;
+mod mem;
 mod putting;

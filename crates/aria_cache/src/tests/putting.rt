@@ -1,9 +1,9 @@
-ghost use Rattle.std.specs.Prelude.{◌≡◌, ◌<◌, ◌^◌, [], ◌∷◌, ◌++◌, ◌+◌, ◌≤◌, false, true, IsTrue, IfOk, OnOk, OnErr, IfSome, is_ok, slice_index, List};
+ghost use Rattle.std.specs.Prelude.{ℕ, ◌≡◌, ◌<◌, ◌^◌, [], ◌∷◌, ◌++◌, ◌+◌, ◌≤◌, false, true, IsTrue, IfOk, OnOk, OnErr, IfSome, is_ok, slice_index, List};
 ghost use Rattle.aria_page.specs.declared.edit.Edit.TheVariants.{Set};
 ghost use Rattle.aria_page.specs.declared.group.RedoKind.TheVariants.{State};
 ghost use Rattle.aria_record.specs.declared.record.Record.TheVariants.{Redo};
 ghost use Rattle.aria_record.specs.Logged.{Logged};
-ghost use Rattle.aria_cache.specs.PageState.{file_of, with_edits};
+ghost use Rattle.aria_cache.specs.PageState.{file_of, with_edits, applied};
 ghost use Rattle.aria_cache.specs.Ending.{ended_group, LastFits, UndoesNewest};
 ghost use Rattle.aria_cache.specs.SetByte.{byte_group};
 ghost use Rattle.aria_cache.specs.Calls.{fault_of, Answers, Edits, Loads, Spends, HasRoom, SameSlots, SameLog, StaysIn, Grows, Ended};
@@ -15,6 +15,7 @@ use aria_page::{Change, Last, Lsn, Part, RedoKind};
 use std::alloc::Global;
 
 // Puts a byte into the body of a page, as part of the open group.
+#[tactic(auto, using(crate::proofs::Growing::grows_same, crate::proofs::Growing::grows_on, crate::proofs::Growing::grows_edited))]
 fn put_byte<P: Pages>(
     alloc: Global,
     pages: &mut P,
@@ -73,6 +74,7 @@ pub(super) fn set_byte<P: Pages>(
     ensures stands { P.stands pages.new }
     ensures moves { OnErr result (P.stays pages.old pages.new) }
     ensures ended { IsTrue P.tells → IsTrue P.logged → IfOk result (λ lsn. Ended P.logged P.ends (byte_group (P.state pages.old) at.slot at.part at.page place byte last.now) lsn pages.old pages.new) }
+    ensures applies { IsTrue P.tells → IsTrue P.logged → OnOk result ((from : ℕ) → (P.state pages.new).bodies ≡ applied (record { at = from; group = byte_group (P.state pages.old) at.slot at.part at.page place byte last.now } ∷ []) (P.state pages.old).bodies) }
     ensures none { (P.state pages.new).in_group ≡ false }
     ensures bodies { IsTrue P.tells → OnOk result ((P.state pages.new).bodies ≡ with_edits (file_of (P.state pages.old) at.slot at.part) at.page (Set place (byte ∷ []) ∷ []) (P.state pages.old).bodies) }
     ensures answers { Answers (P.state pages.old) (P.state pages.new) (fault_of result) }
@@ -132,6 +134,7 @@ fn load_both<P: Pages>(
 }
 
 // Puts a byte into the bodies of two pages, as part of the open group.
+#[tactic(auto, using(crate::proofs::Growing::grows_same, crate::proofs::Growing::grows_on, crate::proofs::Growing::grows_edited))]
 fn put_both<P: Pages>(
     alloc: Global,
     pages: &mut P,

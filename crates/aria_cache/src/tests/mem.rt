@@ -1,0 +1,126 @@
+ghost use Rattle.std.specs.Prelude.{◌≡◌, ◌<◌, IsTrue};
+ghost use Rattle.aria_cache.specs.MemPages.{MemStands};
+
+use super::putting::{byte_at, set_byte};
+use crate::{MemPages, PageId, Pages};
+use aria_host::{Fault, FileName};
+use aria_page::{Last, Lsn, Part};
+use std::alloc::{AllocError, Global};
+use std::test::*;
+
+const NONE: Lsn = Lsn { file: 0, offset: 0 };
+
+const UNDONE: Last = Last::Clr {
+    undone: NONE,
+    next: NONE,
+};
+
+// The byte at a place of a page that is there.
+fn byte_of<P: Pages>(
+    alloc: Global,
+    pages: &mut P,
+    at: PageId,
+    place: u16,
+) -> Result<Option<u8>, Fault>
+    requires stands { P.stands pages.old }
+    requires open { IsTrue ((P.state pages.old).is_open at.slot) }
+    requires place { place < 8181 }
+    ensures stands { P.stands pages.new }
+    ensures in_group { (P.state pages.new).in_group ≡ (P.state pages.old).in_group }
+{
+    let _file = FileName::Control;
+    if at.page >= pages.count(at.slot, at.part) {
+        return Ok(None);
+    }
+    Ok(Some(byte_at(alloc, pages, at, place)?))
+}
+
+// The first byte of the body of a page of slot 0's data file.
+fn first_of(alloc: Global, pages: &mut MemPages, number: u32) -> Result<Option<u8>, Fault>
+    requires stands { MemStands pages.old }
+    ensures stands { MemStands pages.new }
+{
+    let _file = FileName::Control;
+    let at = PageId {
+        slot: 0,
+        part: Part::Rows,
+        page: number,
+    };
+    byte_of(alloc, pages, at, 0)
+}
+
+#[test]
+fn edits_are_found_again(rt: HostRuntime) -> Result<(), Fail> {
+    let alloc = rt.alloc();
+    let mut pages = MemPages::new(alloc);
+    let keys = PageId {
+        slot: 3,
+        part: Part::Keys,
+        page: 2,
+    };
+    let rows = PageId {
+        slot: 3,
+        part: Part::Rows,
+        page: 0,
+    };
+    let lsn = set_byte(alloc, &mut pages, keys, 7, 1, &UNDONE)?;
+    assert_eq!(rt; lsn, NONE);
+    set_byte(alloc, &mut pages, keys, 8, 2, &UNDONE)?;
+    set_byte(alloc, &mut pages, rows, 7, 3, &UNDONE)?;
+    assert_eq!(rt; byte_of(alloc, &mut pages, keys, 7)?, Some(1));
+    assert_eq!(rt; byte_of(alloc, &mut pages, keys, 8)?, Some(2));
+    assert_eq!(rt; byte_of(alloc, &mut pages, rows, 7)?, Some(3));
+    assert_eq!(rt; byte_of(alloc, &mut pages, rows, 8)?, Some(0));
+    assert_eq!(rt; pages.count(3, Part::Keys), 3);
+    assert_eq!(rt; pages.count(3, Part::Rows), 1);
+    assert_eq!(rt; pages.count(4, Part::Keys), 0);
+    assert!(rt; pages.file(12, Part::Rows).text(alloc)?.as_slice() == b"m12.MAD".as_slice());
+    Ok(())
+}
+
+#[test]
+fn pages_that_were_set_are_blank(rt: HostRuntime) -> Result<(), Fail> {
+    let alloc = rt.alloc();
+    let mut pages = MemPages::new(alloc);
+    pages.set_count(alloc, 0, Part::Rows, 21_810)?;
+    pages.set_count(alloc, 0, Part::Keys, 1)?;
+    assert_eq!(rt; pages.count(0, Part::Rows), 21_810);
+    assert_eq!(rt; first_of(alloc, &mut pages, 0)?, Some(2));
+    assert_eq!(rt; first_of(alloc, &mut pages, 1)?, Some(0));
+    assert_eq!(rt; first_of(alloc, &mut pages, 21_808)?, Some(0));
+    assert_eq!(rt; first_of(alloc, &mut pages, 21_809)?, Some(2));
+    assert_eq!(rt; first_of(alloc, &mut pages, 21_810)?, None);
+    let keys = PageId {
+        slot: 0,
+        part: Part::Keys,
+        page: 0,
+    };
+    assert_eq!(rt; byte_of(alloc, &mut pages, keys, 0)?, Some(0));
+    Ok(())
+}
+
+#[test]
+fn a_fault_that_is_kept_is_answered_again(rt: HostRuntime) -> Result<(), Fail> {
+    let alloc = rt.alloc();
+    let mut pages = MemPages::new(alloc);
+    let keys = PageId {
+        slot: 0,
+        part: Part::Keys,
+        page: 0,
+    };
+    set_byte(alloc, &mut pages, keys, 0, 9, &UNDONE)?;
+    let file = pages.file(0, Part::Keys);
+    let first = pages.stop(Fault::PageDamaged { file, page: 0 });
+    assert!(rt; matches!(first, Fault::PageDamaged { page: 0, .. }));
+    let second = pages.stop(Fault::Memory(AllocError));
+    assert!(rt; matches!(second, Fault::PageDamaged { page: 0, .. }));
+    assert!(rt;
+        matches!(
+            byte_of(alloc, &mut pages, keys, 0),
+            Err(Fault::PageDamaged { .. })
+        )
+    );
+    let third = set_byte(alloc, &mut pages, keys, 0, 8, &UNDONE);
+    assert!(rt; matches!(third, Err(Fault::PageDamaged { .. })));
+    Ok(())
+}
