@@ -1,4 +1,4 @@
-ghost use Rattle.std.specs.Prelude.{◌≡◌, ◌<◌, IsTrue};
+ghost use Rattle.std.specs.Prelude.{◌≡◌, ◌<◌, ◌^◌, false, IsTrue};
 ghost use Rattle.aria_cache.specs.MemPages.{MemStands};
 
 use super::putting::{byte_at, set_byte};
@@ -26,7 +26,6 @@ fn byte_of<P: Pages>(
     requires open { IsTrue ((P.state pages.old).is_open at.slot) }
     requires place { place < 8181 }
     ensures stands { P.stands pages.new }
-    ensures in_group { (P.state pages.new).in_group ≡ (P.state pages.old).in_group }
 {
     let _file = FileName::Control;
     if at.page >= pages.count(at.slot, at.part) {
@@ -35,18 +34,27 @@ fn byte_of<P: Pages>(
     Ok(Some(byte_at(alloc, pages, at, place)?))
 }
 
-// The first byte of the body of a page of slot 0's data file.
-fn first_of(alloc: Global, pages: &mut MemPages, number: u32) -> Result<Option<u8>, Fault>
+// Puts two bytes into a page and one into another.
+fn put_three(alloc: Global, pages: &mut MemPages, one: PageId, other: PageId) -> Result<Lsn, Fault>
     requires stands { MemStands pages.old }
+    requires none { pages.old.in_group ≡ false }
+    requires low_one { one.page < 2 ^ 31 }
+    requires low_other { other.page < 2 ^ 31 }
     ensures stands { MemStands pages.new }
 {
     let _file = FileName::Control;
-    let at = PageId {
-        slot: 0,
-        part: Part::Rows,
-        page: number,
-    };
-    byte_of(alloc, pages, at, 0)
+    set_byte(alloc, pages, one, 7, 1, &UNDONE)?;
+    set_byte(alloc, pages, one, 8, 2, &UNDONE)?;
+    set_byte(alloc, pages, other, 7, 3, &UNDONE)
+}
+
+// The byte of a page in memory.
+fn read(alloc: Global, pages: &mut MemPages, at: PageId, place: u16) -> Result<Option<u8>, Fault>
+    requires stands { MemStands pages.old }
+    requires place { place < 8181 }
+    ensures stands { MemStands pages.new }
+{
+    byte_of(alloc, pages, at, place)
 }
 
 #[test]
@@ -63,14 +71,11 @@ fn edits_are_found_again(rt: HostRuntime) -> Result<(), Fail> {
         part: Part::Rows,
         page: 0,
     };
-    let lsn = set_byte(alloc, &mut pages, keys, 7, 1, &UNDONE)?;
-    assert_eq!(rt; lsn, NONE);
-    set_byte(alloc, &mut pages, keys, 8, 2, &UNDONE)?;
-    set_byte(alloc, &mut pages, rows, 7, 3, &UNDONE)?;
-    assert_eq!(rt; byte_of(alloc, &mut pages, keys, 7)?, Some(1));
-    assert_eq!(rt; byte_of(alloc, &mut pages, keys, 8)?, Some(2));
-    assert_eq!(rt; byte_of(alloc, &mut pages, rows, 7)?, Some(3));
-    assert_eq!(rt; byte_of(alloc, &mut pages, rows, 8)?, Some(0));
+    assert_eq!(rt; put_three(alloc, &mut pages, keys, rows)?, NONE);
+    assert_eq!(rt; read(alloc, &mut pages, keys, 7)?, Some(1));
+    assert_eq!(rt; read(alloc, &mut pages, keys, 8)?, Some(2));
+    assert_eq!(rt; read(alloc, &mut pages, rows, 7)?, Some(3));
+    assert_eq!(rt; read(alloc, &mut pages, rows, 8)?, Some(0));
     assert_eq!(rt; pages.count(3, Part::Keys), 3);
     assert_eq!(rt; pages.count(3, Part::Rows), 1);
     assert_eq!(rt; pages.count(4, Part::Keys), 0);
@@ -78,24 +83,30 @@ fn edits_are_found_again(rt: HostRuntime) -> Result<(), Fail> {
     Ok(())
 }
 
+// The first byte of the body of a page of slot 0's data file.
+fn first_of(alloc: Global, pages: &mut MemPages, number: u32) -> Result<Option<u8>, Fault>
+    requires stands { MemStands pages.old }
+    ensures stands { MemStands pages.new }
+{
+    let at = PageId {
+        slot: 0,
+        part: Part::Rows,
+        page: number,
+    };
+    read(alloc, pages, at, 0)
+}
+
 #[test]
 fn pages_that_were_set_are_blank(rt: HostRuntime) -> Result<(), Fail> {
     let alloc = rt.alloc();
     let mut pages = MemPages::new(alloc);
     pages.set_count(alloc, 0, Part::Rows, 21_810)?;
-    pages.set_count(alloc, 0, Part::Keys, 1)?;
     assert_eq!(rt; pages.count(0, Part::Rows), 21_810);
     assert_eq!(rt; first_of(alloc, &mut pages, 0)?, Some(2));
     assert_eq!(rt; first_of(alloc, &mut pages, 1)?, Some(0));
     assert_eq!(rt; first_of(alloc, &mut pages, 21_808)?, Some(0));
     assert_eq!(rt; first_of(alloc, &mut pages, 21_809)?, Some(2));
     assert_eq!(rt; first_of(alloc, &mut pages, 21_810)?, None);
-    let keys = PageId {
-        slot: 0,
-        part: Part::Keys,
-        page: 0,
-    };
-    assert_eq!(rt; byte_of(alloc, &mut pages, keys, 0)?, Some(0));
     Ok(())
 }
 
@@ -108,19 +119,13 @@ fn a_fault_that_is_kept_is_answered_again(rt: HostRuntime) -> Result<(), Fail> {
         part: Part::Keys,
         page: 0,
     };
-    set_byte(alloc, &mut pages, keys, 0, 9, &UNDONE)?;
+    pages.set_count(alloc, 0, Part::Keys, 1)?;
     let file = pages.file(0, Part::Keys);
     let first = pages.stop(Fault::PageDamaged { file, page: 0 });
     assert!(rt; matches!(first, Fault::PageDamaged { page: 0, .. }));
     let second = pages.stop(Fault::Memory(AllocError));
     assert!(rt; matches!(second, Fault::PageDamaged { page: 0, .. }));
-    assert!(rt;
-        matches!(
-            byte_of(alloc, &mut pages, keys, 0),
-            Err(Fault::PageDamaged { .. })
-        )
-    );
-    let third = set_byte(alloc, &mut pages, keys, 0, 8, &UNDONE);
-    assert!(rt; matches!(third, Err(Fault::PageDamaged { .. })));
+    let read = read(alloc, &mut pages, keys, 0);
+    assert!(rt; matches!(read, Err(Fault::PageDamaged { .. })));
     Ok(())
 }
