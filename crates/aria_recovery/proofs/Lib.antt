@@ -1,0 +1,13 @@
+pub mod Redoing
+pub mod Agreeing
+pub mod Stepping
+pub mod Writing
+pub mod Imaging
+pub mod Calming
+pub mod Creating
+pub mod Raising
+pub mod Framing
+pub mod Fronts
+pub mod Placing
+pub mod Moving
+pub mod Naming

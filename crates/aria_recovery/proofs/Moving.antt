@@ -1,0 +1,113 @@
+-- One call after another.
+use Rattle.std.proofs.Common.{◌≡◌, ◌∙◌, ℕ, ◌<◌, ◌≤◌, Bool, true, false, cond, List, ◌++◌, length, take, nat_le, ap, sym, refl, subst, arith, length-append, append_assoc, inl, inr}
+use Rattle.std.proofs.lemmas.Bool.{cases_lt}
+use Rattle.std.proofs.lemmas.Bool.Decides.{nat_tests}
+use Rattle.std.proofs.lemmas.List.{take-append-le}
+use Rattle.aria_page.specs.declared.place.Part.{Part}
+use Rattle.aria_page.specs.declared.place.Part.TheVariants.{Keys}
+use Rattle.aria_host.specs.Folder.{Folder}
+use Rattle.aria_host.specs.State.{State, LeavesOnly}
+use Rattle.aria_host.proofs.Moments.{joined, weakened}
+use Rattle.aria_record.specs.Logged.{Logged}
+use Rattle.aria_recovery.specs.Redo.{Content}
+use Rattle.aria_recovery.specs.Tables.{Maker, life_of, is_there, file_of, begun, file, tables_of, Agrees}
+use Rattle.aria_recovery.specs.Images.{AreImages}
+use Rattle.aria_recovery.proofs.Stepping.{table_alike}
+use Rattle.aria_recovery.specs.Moves.{Versions, AtFront, Moves}
+
+le_true : (a b : ℕ) → a ≤ b → nat_le a b ≡ true
+le_true a b low = grind (arith, nat_tests)
+
+le_false : (a b : ℕ) → b < a → nat_le a b ≡ false
+le_false a b high = grind (arith, nat_tests)
+
+-- the first tables up to a number of groups, and the other ones behind it
+abbrev pub both : ℕ → Versions → Versions → Versions
+both n one other = λ m. cond (nat_le m n) (one m) (other m)
+
+both_one : (n m : ℕ) (one other : Versions) (name : List ℕ) → m ≤ n → both n one other m name ≡ one m name
+both_one n m one other name low = ap (λ (b : Bool). cond b (one m) (other m) name) (le_true m n low)
+
+both_other : (n m : ℕ) (one other : Versions) (name : List ℕ) → n < m → both n one other m name ≡ other m name
+both_other n m one other name high = ap (λ (b : Bool). cond b (one m) (other m) name) (le_false m n high)
+
+module _ (HoldsLog : Folder → List Logged → Type 0) (opened : List ℕ → Bool) where
+  pub moves_on : (a b c : State) (ga gb gc : List Logged) (fa fb fc : ℕ) → Moves HoldsLog opened a b ga gb fa fb → Moves HoldsLog opened b c gb gc fb fc → Moves HoldsLog opened a c ga gc fa fc
+  moves_on a b c ga gb gc fa fb fc first second = record {
+    more = first.more ++ second.more;
+    grows = second.grows ∙ ap (λ (l : List Logged). l ++ second.more) first.grows ∙ append_assoc ga first.more second.more;
+    forces = omega (arith, first.forces, second.forces);
+    tables = all;
+    starts = λ m lo hi name. both_one (length gb) m first.tables second.tables name (omega (arith, hi, ap length first.grows, length-append ga first.more)) ∙ first.starts m lo hi name;
+    ends = λ m lo hi name. second_is m name (omega (arith, lo, second.forces)) ∙ second.ends m lo hi name;
+    moments = joined a b c (AtFront HoldsLog opened all gc fa a.out) (AtFront HoldsLog opened second.tables gc fb b.out)
+        (weakened a b (AtFront HoldsLog opened first.tables gb fa a.out) (AtFront HoldsLog opened all gc fa a.out) first.moments longer) second.moments on;
+    images = second.images;
+    out = second.out ∙ first.out;
+  }
+    where
+      all : Versions
+      all = both (length gb) first.tables second.tables
+      second_is : (m : ℕ) (name : List ℕ) → fb ≤ m → all m name ≡ second.tables m name
+      second_is m name lo = elim (cases_lt (length gb) m) [
+        | inl high ↦ both_other (length gb) m first.tables second.tables name high
+        | inr low ↦ both_one (length gb) m first.tables second.tables name low ∙ first.ends m lo low name ∙ sym (second.starts m lo low name)
+      ]
+      longer : (f : Folder) (told : List ℕ) → AtFront HoldsLog opened first.tables gb fa a.out f told → AtFront HoldsLog opened all gc fa a.out f told
+      longer f told at =
+          let same : take at.count gc ≡ take at.count gb = ap (take at.count) second.grows ∙ take-append-le at.count gb second.more at.within in
+          record {
+            count = at.count;
+            from = at.from;
+            within = omega (arith, at.within, length-append gb second.more, ap length second.grows);
+            log = subst (HoldsLog f) (sym same) at.log;
+            is = λ name. ap (λ (l : List Logged). tables_of f l name) same ∙ at.is name ∙ sym (both_one (length gb) at.count first.tables second.tables name at.within);
+            told_is = at.told_is;
+          }
+      on : (f : Folder) (told : List ℕ) → AtFront HoldsLog opened second.tables gc fb b.out f told → AtFront HoldsLog opened all gc fa a.out f told
+      on f told at = record {
+        count = at.count;
+        from = omega (arith, first.forces, at.from);
+        within = at.within;
+        log = at.log;
+        is = λ name. at.is name ∙ sym (second_is at.count name at.from);
+        told_is = at.told_is ∙ first.out;
+      }
+
+  -- folders with the same files of tables
+  tables_same : (d c : Folder) (gs : List Logged) (name : List ℕ) → ((part : Part) → c (file name part) ≡ d (file name part)) → tables_of c gs name ≡ tables_of d gs name
+  tables_same d c gs name same = table_alike name (life_of name gs) c d (ap (is_there (life_of name gs).last) (same Keys)) (λ part. ap (λ (f : Content). file_of name part (life_of name gs).since (begun part (life_of name gs).last f)) (same part))
+
+  -- a crash leaves a front of the log, and the tables' files as a crash before might have
+  pub record AtLog (old : State) (groups : List Logged) (forced : ℕ) (c : Folder) (told : List ℕ) : Type 0 where
+    pub count : ℕ
+    pub from : forced ≤ count
+    pub within : count ≤ length groups
+    pub log : HoldsLog c (take count groups)
+    pub before : Folder
+    pub left : old.may_leave before
+    pub same : (name : List ℕ) (part : Part) → c (file name part) ≡ before (file name part)
+    pub told_is : told ≡ old.out
+
+  -- the log alone is written: groups are added, or more are forced
+  pub moves_log : (old new : State) (gs more : List Logged) (forced forced' : ℕ) → forced ≤ forced' → ((d : Folder) → old.may_leave d → Agrees (gs ++ more) forced old.folder d)
+      → LeavesOnly old new (AtLog old (gs ++ more) forced) → ((name : List ℕ) (part : Part) → new.folder (file name part) ≡ old.folder (file name part)) → AreImages opened new (gs ++ more) forced' → new.out ≡ old.out
+      → Moves HoldsLog opened old new gs (gs ++ more) forced forced'
+  moves_log old new gs more forced forced' le agrees moments same images out = record {
+    more = more;
+    grows = refl;
+    forces = le;
+    tables = λ m name. tables_of old.folder (take m (gs ++ more)) name;
+    starts = λ m lo hi name. ap (λ (l : List Logged). tables_of old.folder l name) (take-append-le m gs more hi);
+    ends = λ m lo hi name. sym (tables_same old.folder new.folder (take m (gs ++ more)) name (same name));
+    moments = weakened old new (AtLog old (gs ++ more) forced) (AtFront HoldsLog opened (λ m name. tables_of old.folder (take m (gs ++ more)) name) (gs ++ more) forced old.out) moments (λ c told at. record {
+      count = at.count;
+      from = at.from;
+      within = at.within;
+      log = at.log;
+      is = λ name. tables_same at.before c (take at.count (gs ++ more)) name (at.same name) ∙ sym ((agrees at.before at.left).tables at.count at.from at.within name);
+      told_is = at.told_is;
+    });
+    images = images;
+    out = out;
+  }

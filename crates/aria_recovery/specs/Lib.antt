@@ -1,0 +1,4 @@
+pub mod Redo
+pub mod Tables
+pub mod Images
+pub mod Moves

@@ -1,0 +1,2 @@
+//! What the groups of the log make of a folder.
+#![tactic(auto)]
