@@ -1,3 +1,6 @@
+pub mod Worked
+pub mod Above
+pub mod Numbering
 pub mod Redoing
 pub mod Agreeing
 pub mod Stepping
