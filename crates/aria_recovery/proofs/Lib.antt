@@ -1,3 +1,4 @@
+pub mod Seeing
 pub mod Worked
 pub mod Above
 pub mod Numbering
