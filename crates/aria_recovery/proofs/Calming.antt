@@ -34,6 +34,7 @@ module _ (opened : List ℕ → Bool) where
     images = images;
     folder = agrees_self gs forced s.folder;
     out = refl;
+    err = refl;
   }
 
   -- one call
@@ -45,6 +46,7 @@ module _ (opened : List ℕ → Bool) where
     images = after;
     folder = folder;
     out = tells.out;
+    err = tells.err;
   }
     where
       after : AreImages opened t gs forced
@@ -59,6 +61,7 @@ module _ (opened : List ℕ → Bool) where
     images = second.images;
     folder = agrees_on gs forced a.folder b.folder c.folder first.folder second.folder;
     out = second.out ∙ first.out;
+    err = second.err ∙ first.err;
   }
 
   -- a sync

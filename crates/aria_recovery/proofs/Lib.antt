@@ -13,5 +13,6 @@ pub mod Raising
 pub mod Framing
 pub mod Fronts
 pub mod Placing
-pub mod Moving
+pub mod Applying
 pub mod Naming
+pub mod Moving

@@ -1,8 +1,8 @@
--- One call after another.
-use Rattle.std.proofs.Common.{◌≡◌, ◌∙◌, ℕ, ◌<◌, ◌≤◌, Bool, true, false, cond, List, ◌++◌, length, take, nat_le, ap, sym, refl, subst, arith, length-append, append_assoc, inl, inr}
+-- One call after another: groups are added, and tables stay or change by them.
+use Rattle.std.proofs.Common.{◌≡◌, ◌∙◌, ◌⊎◌, ℕ, ◌+◌, ◌<◌, ◌≤◌, Bool, true, false, cond, List, [], ◌∷◌, ◌++◌, length, take, nat_le, ap, sym, refl, subst, arith, length-append, append_assoc, inl, inr}
 use Rattle.std.proofs.lemmas.Bool.{cases_lt}
 use Rattle.std.proofs.lemmas.Bool.Decides.{nat_tests}
-use Rattle.std.proofs.lemmas.List.{take-append-le}
+use Rattle.std.proofs.lemmas.List.{take-append-le, append-nil}
 use Rattle.aria_page.specs.declared.place.Part.{Part}
 use Rattle.aria_page.specs.declared.place.Part.TheVariants.{Keys}
 use Rattle.aria_host.specs.Folder.{Folder}
@@ -10,10 +10,12 @@ use Rattle.aria_host.specs.State.{State, LeavesOnly}
 use Rattle.aria_host.proofs.Moments.{joined, weakened}
 use Rattle.aria_record.specs.Logged.{Logged}
 use Rattle.aria_recovery.specs.Redo.{Content}
-use Rattle.aria_recovery.specs.Tables.{Maker, life_of, is_there, file_of, begun, file, tables_of, Agrees}
-use Rattle.aria_recovery.specs.Images.{AreImages}
+use Rattle.aria_recovery.specs.Tables.{life_of, is_there, file_of, begun, file, tables_of, Agrees}
+use Rattle.aria_recovery.specs.Images.{AreImages, AtTables, Calm}
+use Rattle.aria_recovery.specs.Moves.{Versions, HasFront, AtFront, Applies, Moves}
 use Rattle.aria_recovery.proofs.Stepping.{table_alike}
-use Rattle.aria_recovery.specs.Moves.{Versions, AtFront, Moves}
+use Rattle.aria_recovery.proofs.Calming.{IsNow, calm_none}
+use Rattle.aria_recovery.proofs.Applying.{applies_none, applies_on}
 
 le_true : (a b : ℕ) → a ≤ b → nat_le a b ≡ true
 le_true a b low = grind (arith, nat_tests)
@@ -31,21 +33,83 @@ both_one n m one other name low = ap (λ (b : Bool). cond b (one m) (other m) na
 both_other : (n m : ℕ) (one other : Versions) (name : List ℕ) → n < m → both n one other m name ≡ other m name
 both_other n m one other name high = ap (λ (b : Bool). cond b (one m) (other m) name) (le_false m n high)
 
+-- at each moment both hold
+pub record Both (P Q : Folder → List ℕ → Type 0) (c : Folder) (told : List ℕ) : Type 0 where
+  pub one : P c told
+  pub other : Q c told
+
+pub at_once : (a b : State) (P Q : Folder → List ℕ → Type 0) → LeavesOnly a b P → LeavesOnly a b Q → LeavesOnly a b (Both P Q)
+at_once a b P Q first second = record {
+  later = first.later;
+  each = λ c told left. record { one = first.each c told left; other = second.each c told left };
+  before = λ t c told le left. by t c told (first.before t c told le left) (second.before t c told le left);
+}
+  where
+    by : (t : ℕ) (c : Folder) (told : List ℕ) → a.since t c told ⊎ P c told → a.since t c told ⊎ Q c told → a.since t c told ⊎ Both P Q c told
+    by t c told (inl was) other = inl was
+    by t c told (inr one) (inl was) = inl was
+    by t c told (inr one) (inr other) = inr (record { one = one; other = other })
+
+-- folders with the same files of tables
+pub tables_same : (d c : Folder) (gs : List Logged) (name : List ℕ) → ((part : Part) → c (file name part) ≡ d (file name part)) → tables_of c gs name ≡ tables_of d gs name
+tables_same d c gs name same = table_alike name (life_of name gs) c d (ap (is_there (life_of name gs).last) (same Keys)) (λ part. ap (λ (f : Content). file_of name part (life_of name gs).since (begun part (life_of name gs).last f)) (same part))
+
 module _ (HoldsLog : Folder → List Logged → Type 0) (opened : List ℕ → Bool) where
+  -- THE TABLES STAY: no group is added or forced
+  pub moves_calm : (old new : State) (gs : List Logged) (forced : ℕ) → forced ≤ length gs → Calm opened old new gs forced → LeavesOnly old new (HasFront HoldsLog gs forced) → Moves HoldsLog opened old new gs gs forced forced
+  moves_calm old new gs forced within calm fronts = record {
+    more = [];
+    grows = sym (append-nil gs);
+    forces = omega arith;
+    within = within;
+    tables = all;
+    starts = λ m lo hi name. refl;
+    ends = λ m lo hi name. calm.folder.tables m lo hi name;
+    applies = applies_none all (length gs);
+    moments = weakened old new (Both (AtTables old gs forced) (HasFront HoldsLog gs forced)) (AtFront HoldsLog all gs forced old.out)
+        (at_once old new (AtTables old gs forced) (HasFront HoldsLog gs forced) calm.moments fronts) (λ c told at. record {
+          count = at.other.count;
+          from = at.other.from;
+          within = at.other.within;
+          log = at.other.log;
+          is = λ name. sym (at.one.agrees.tables at.other.count at.other.from at.other.within name);
+          told_is = at.one.told_is;
+        });
+    images = calm.images;
+    out = calm.out;
+    err = calm.err;
+  }
+    where
+      all : Versions
+      all m name = tables_of old.folder (take m gs) name
+
+  -- nothing is done
+  pub moves_none : (s : State) (gs : List Logged) (forced : ℕ) → forced ≤ length gs → IsNow s → AreImages opened s gs forced → LeavesOnly s s (HasFront HoldsLog gs forced) → Moves HoldsLog opened s s gs gs forced forced
+  moves_none s gs forced within only images fronts = moves_calm s s gs forced within (calm_none opened s gs forced only images) fronts
+
+  -- ONE AFTER ANOTHER
   pub moves_on : (a b c : State) (ga gb gc : List Logged) (fa fb fc : ℕ) → Moves HoldsLog opened a b ga gb fa fb → Moves HoldsLog opened b c gb gc fb fc → Moves HoldsLog opened a c ga gc fa fc
   moves_on a b c ga gb gc fa fb fc first second = record {
     more = first.more ++ second.more;
     grows = second.grows ∙ ap (λ (l : List Logged). l ++ second.more) first.grows ∙ append_assoc ga first.more second.more;
     forces = omega (arith, first.forces, second.forces);
+    within = second.within;
     tables = all;
-    starts = λ m lo hi name. both_one (length gb) m first.tables second.tables name (omega (arith, hi, ap length first.grows, length-append ga first.more)) ∙ first.starts m lo hi name;
+    starts = λ m lo hi name. both_one (length gb) m first.tables second.tables name (omega (arith, hi, lengths)) ∙ first.starts m lo hi name;
     ends = λ m lo hi name. second_is m name (omega (arith, lo, second.forces)) ∙ second.ends m lo hi name;
-    moments = joined a b c (AtFront HoldsLog opened all gc fa a.out) (AtFront HoldsLog opened second.tables gc fb b.out)
-        (weakened a b (AtFront HoldsLog opened first.tables gb fa a.out) (AtFront HoldsLog opened all gc fa a.out) first.moments longer) second.moments on;
+    applies = applies_on first.tables second.tables all (length ga) first.more second.more first.applies
+        (subst (λ (k : ℕ). Applies second.tables k second.more) lengths second.applies)
+        (λ m name low. both_one (length gb) m first.tables second.tables name (omega (arith, low, lengths)))
+        (λ m name low high. second_is m name (omega (arith, low, lengths, first.within)));
+    moments = joined a b c (AtFront HoldsLog all gc fa a.out) (AtFront HoldsLog second.tables gc fb b.out)
+        (weakened a b (AtFront HoldsLog first.tables gb fa a.out) (AtFront HoldsLog all gc fa a.out) first.moments longer) second.moments on;
     images = second.images;
     out = second.out ∙ first.out;
+    err = second.err ∙ first.err;
   }
     where
+      lengths : length gb ≡ length ga + length first.more
+      lengths = ap length first.grows ∙ length-append ga first.more
       all : Versions
       all = both (length gb) first.tables second.tables
       second_is : (m : ℕ) (name : List ℕ) → fb ≤ m → all m name ≡ second.tables m name
@@ -53,7 +117,7 @@ module _ (HoldsLog : Folder → List Logged → Type 0) (opened : List ℕ → B
         | inl high ↦ both_other (length gb) m first.tables second.tables name high
         | inr low ↦ both_one (length gb) m first.tables second.tables name low ∙ first.ends m lo low name ∙ sym (second.starts m lo low name)
       ]
-      longer : (f : Folder) (told : List ℕ) → AtFront HoldsLog opened first.tables gb fa a.out f told → AtFront HoldsLog opened all gc fa a.out f told
+      longer : (f : Folder) (told : List ℕ) → AtFront HoldsLog first.tables gb fa a.out f told → AtFront HoldsLog all gc fa a.out f told
       longer f told at =
           let same : take at.count gc ≡ take at.count gb = ap (take at.count) second.grows ∙ take-append-le at.count gb second.more at.within in
           record {
@@ -64,7 +128,7 @@ module _ (HoldsLog : Folder → List Logged → Type 0) (opened : List ℕ → B
             is = λ name. ap (λ (l : List Logged). tables_of f l name) same ∙ at.is name ∙ sym (both_one (length gb) at.count first.tables second.tables name at.within);
             told_is = at.told_is;
           }
-      on : (f : Folder) (told : List ℕ) → AtFront HoldsLog opened second.tables gc fb b.out f told → AtFront HoldsLog opened all gc fa a.out f told
+      on : (f : Folder) (told : List ℕ) → AtFront HoldsLog second.tables gc fb b.out f told → AtFront HoldsLog all gc fa a.out f told
       on f told at = record {
         count = at.count;
         from = omega (arith, first.forces, at.from);
@@ -73,10 +137,6 @@ module _ (HoldsLog : Folder → List Logged → Type 0) (opened : List ℕ → B
         is = λ name. at.is name ∙ sym (second_is at.count name at.from);
         told_is = at.told_is ∙ first.out;
       }
-
-  -- folders with the same files of tables
-  tables_same : (d c : Folder) (gs : List Logged) (name : List ℕ) → ((part : Part) → c (file name part) ≡ d (file name part)) → tables_of c gs name ≡ tables_of d gs name
-  tables_same d c gs name same = table_alike name (life_of name gs) c d (ap (is_there (life_of name gs).last) (same Keys)) (λ part. ap (λ (f : Content). file_of name part (life_of name gs).since (begun part (life_of name gs).last f)) (same part))
 
   -- a crash leaves a front of the log, and the tables' files as a crash before might have
   pub record AtLog (old : State) (groups : List Logged) (forced : ℕ) (c : Folder) (told : List ℕ) : Type 0 where
@@ -89,18 +149,21 @@ module _ (HoldsLog : Folder → List Logged → Type 0) (opened : List ℕ → B
     pub same : (name : List ℕ) (part : Part) → c (file name part) ≡ before (file name part)
     pub told_is : told ≡ old.out
 
-  -- the log alone is written: groups are added, or more are forced
-  pub moves_log : (old new : State) (gs more : List Logged) (forced forced' : ℕ) → forced ≤ forced' → ((d : Folder) → old.may_leave d → Agrees (gs ++ more) forced old.folder d)
-      → LeavesOnly old new (AtLog old (gs ++ more) forced) → ((name : List ℕ) (part : Part) → new.folder (file name part) ≡ old.folder (file name part)) → AreImages opened new (gs ++ more) forced' → new.out ≡ old.out
+  -- THE LOG ALONE IS WRITTEN: groups are added, or more are forced
+  pub moves_log : (old new : State) (gs more : List Logged) (forced forced' : ℕ) → forced ≤ forced' → forced' ≤ length (gs ++ more) → ((d : Folder) → old.may_leave d → Agrees (gs ++ more) forced old.folder d)
+      → Applies (λ m name. tables_of old.folder (take m (gs ++ more)) name) (length gs) more → LeavesOnly old new (AtLog old (gs ++ more) forced)
+      → ((name : List ℕ) (part : Part) → new.folder (file name part) ≡ old.folder (file name part)) → AreImages opened new (gs ++ more) forced' → new.out ≡ old.out → new.err ≡ old.err
       → Moves HoldsLog opened old new gs (gs ++ more) forced forced'
-  moves_log old new gs more forced forced' le agrees moments same images out = record {
+  moves_log old new gs more forced forced' le within agrees applies moments same images out err = record {
     more = more;
     grows = refl;
     forces = le;
+    within = within;
     tables = λ m name. tables_of old.folder (take m (gs ++ more)) name;
     starts = λ m lo hi name. ap (λ (l : List Logged). tables_of old.folder l name) (take-append-le m gs more hi);
     ends = λ m lo hi name. sym (tables_same old.folder new.folder (take m (gs ++ more)) name (same name));
-    moments = weakened old new (AtLog old (gs ++ more) forced) (AtFront HoldsLog opened (λ m name. tables_of old.folder (take m (gs ++ more)) name) (gs ++ more) forced old.out) moments (λ c told at. record {
+    applies = applies;
+    moments = weakened old new (AtLog old (gs ++ more) forced) (AtFront HoldsLog (λ m name. tables_of old.folder (take m (gs ++ more)) name) (gs ++ more) forced old.out) moments (λ c told at. record {
       count = at.count;
       from = at.from;
       within = at.within;
@@ -110,4 +173,5 @@ module _ (HoldsLog : Folder → List Logged → Type 0) (opened : List ℕ → B
     });
     images = images;
     out = out;
+    err = err;
   }

@@ -31,6 +31,7 @@ pub record Calm (opened : List ℕ → Bool) (old new : State) (groups : List Lo
   pub images : AreImages opened new groups forced
   pub folder : Agrees groups forced old.folder new.folder
   pub out : new.out ≡ old.out
+  pub err : new.err ≡ old.err
 
 -- a page of a table's file, or zeros past its end and where it isn't there
 abbrev pub page_of : Folder → List ℕ → Part → ℕ → Seen
