@@ -1,8 +1,9 @@
 -- What a held page says of its write: all that the step asks for.
-use Rattle.std.proofs.Common.{◌≡◌, ◌∙◌, ℕ, ◌+◌, ◌<◌, ◌≤◌, Bool, true, false, cond, List, [], ◌∷◌, ◌++◌, length, max, nat_eq, nat_le, ap, sym, refl, subst, arith, Option, None, Some}
+use Rattle.std.proofs.Common.{◌≡◌, ◌∙◌, ℕ, ◌+◌, ◌<◌, ◌≤◌, Bool, true, false, cond, List, [], ◌∷◌, ◌++◌, length, take, max, nat_eq, nat_le, ap, sym, refl, subst, arith, Option, None, Some}
 use Rattle.std.specs.Prelude.{IsTrue}
 use Rattle.std.proofs.lemmas.Bool.{eqb-true}
 use Rattle.std.proofs.lemmas.Bool.Decides.{nat_tests}
+use Rattle.std.proofs.lemmas.List.{take_all}
 use Rattle.aria_page.specs.declared.lsn.Lsn.{Lsn}
 use Rattle.aria_page.specs.Lsn.{lsn_number}
 use Rattle.aria_page.specs.declared.edit.Edit.{Edit}
@@ -16,7 +17,7 @@ use Rattle.aria_recovery.specs.Redo.{Seen, is_sound, seen, page_seen, page_numbe
 use Rattle.aria_recovery.specs.Tables.{Maker, life_of, is_from, file, IsCurrent, AreCurrent}
 use Rattle.aria_recovery.specs.Images.{IsNeutral}
 use Rattle.aria_recovery.specs.Redo.{is_some_edit, touches}
-use Rattle.aria_recovery.proofs.Redoing.{IsFrom, redo_later}
+use Rattle.aria_recovery.proofs.Redoing.{IsFrom, redo_later, redo_front}
 use Rattle.aria_recovery.proofs.Writing.{page_is, count_is}
 use Rattle.aria_recovery.proofs.Imaging.{write_step}
 
@@ -69,16 +70,22 @@ first_from : (at : Lsn) (pages : List (List ℕ)) → is_from at (Some pages) �
 first_from at [] from = absurd (cc)
 first_from at (p ∷ ps) from = seen_from (lsn_number at) p (le_of (lsn_number at) (page_number p) from)
 
-module _ (opened : List ℕ → Bool) (gs : List Logged) where
-  -- A PAGE IS WRITTEN as all groups make the file's, while all are forced: that is neutral.
-  pub frame_step : (name : List ℕ) (p : Part) (n : ℕ) (page : List ℕ) (now : Folder) (pages : List (List ℕ)) (lsn : ℕ) (body : List ℕ) → IsTrue (opened name) → AreCurrent name gs now → now (file name p) ≡ Some pages
-      → redo name p n (life_of name gs).since (page_seen pages n) ≡ Some (lsn, body) → seen page ≡ Some (lsn, body) → n < max (length pages) (reach name p (life_of name gs).since)
-      → IsNeutral opened gs (length gs) now (MayWrite (file name p) n page)
-  frame_step name p n page now pages lsn body on current is held sealed within = write_step opened gs name p n page now on
-      (page_is name gs p now pages is current n ∙ held ∙ sym sealed)
+module _ (opened : List ℕ → Bool) (gs : List Logged) (name : List ℕ) (p : Part) (n : ℕ) (page : List ℕ) (now : Folder) (pages : List (List ℕ)) (lsn : ℕ) (body : List ℕ) where
+  abbrev since : List Logged
+  since = (life_of name gs).since
+
+  -- A PAGE IS WRITTEN as a front of the groups, or all of them, make the file's, while all are forced: that is neutral.
+  pub front_step : (i : ℕ) → IsTrue (opened name) → AreCurrent name gs now → now (file name p) ≡ Some pages → redo name p n (take i since) (page_seen pages n) ≡ Some (lsn, body) → seen page ≡ Some (lsn, body)
+      → n < max (length pages) (reach name p since) → IsNeutral opened gs (length gs) now (MayWrite (file name p) n page)
+  front_step i on current is held sealed within = write_step opened gs name p n page now on
+      (ap (redo name p n since) (sealed ∙ sym held) ∙ redo_front name p n i since (page_seen pages n) ∙ sym (page_is name gs p now pages is current n))
       (subst (λ (k : ℕ). n < k) (sym (count_is name gs p now pages is current)) within)
       first
     where
       first : n ≡ 0 → (maker : Maker) → (life_of name gs).last ≡ Some (Some maker) → lsn_number maker.at ≤ page_number page
-      first zero_is maker made = number_from (lsn_number maker.at) page body lsn sealed (subst (IsFrom (lsn_number maker.at)) held (redo_later name p n (life_of name gs).since (lsn_number maker.at) (page_seen pages n)
+      first zero_is maker made = number_from (lsn_number maker.at) page body lsn sealed (subst (IsFrom (lsn_number maker.at)) held (redo_later name p n (take i since) (lsn_number maker.at) (page_seen pages n)
           (subst (λ (k : ℕ). IsFrom (lsn_number maker.at) (page_seen pages k)) (sym zero_is) (first_from maker.at pages (subst (λ (l : Option (Option Maker)). IsCurrent l (Some pages)) made (subst (IsCurrent (life_of name gs).last) is (current p)))))))
+
+  pub frame_step : IsTrue (opened name) → AreCurrent name gs now → now (file name p) ≡ Some pages → redo name p n since (page_seen pages n) ≡ Some (lsn, body) → seen page ≡ Some (lsn, body)
+      → n < max (length pages) (reach name p since) → IsNeutral opened gs (length gs) now (MayWrite (file name p) n page)
+  frame_step on current is held = front_step (length since) on current is (ap (λ (l : List Logged). redo name p n l (page_seen pages n)) (take_all (length since) since (omega arith)) ∙ held)

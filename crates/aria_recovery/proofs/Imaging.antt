@@ -15,7 +15,7 @@ use Rattle.aria_host.specs.Steps.{Follows, MayWrite, MayMake}
 use Rattle.aria_host.proofs.Files.{with_file-same, with_file-other}
 use Rattle.aria_record.specs.Logged.{Logged}
 use Rattle.aria_value.specs.Named.{same_name}
-use Rattle.aria_recovery.specs.Redo.{Content, page_number, seen, same_part}
+use Rattle.aria_recovery.specs.Redo.{Content, page_number, seen, same_part, redo}
 use Rattle.aria_recovery.specs.Tables.{Maker, life_of, is_from, begun, file, File, Table, is_there, file_of, tables_of, Agrees, IsCurrent, AreCurrent, made_page, page_in, count_in}
 use Rattle.aria_recovery.specs.Images.{IsImage, AreImages, IsNeutral}
 use Rattle.aria_recovery.proofs.Agreeing.{agrees_self, agrees_sym, agrees_on}
@@ -130,8 +130,8 @@ module _ (opened : List ℕ → Bool) (gs : List Logged) where
   no_file (Some None) is = is
   no_file (Some (Some maker)) is = (cc)
 
-  -- A page of an open table is written as all groups make it, while all are forced.
-  pub write_step : (name : List ℕ) (p : Part) (n : ℕ) (page : List ℕ) (now : Folder) → IsTrue (opened name) → page_in (tables_of now gs name) p n ≡ seen page → n < count_in (tables_of now gs name) p
+  -- A page of an open table is written of which all groups make the same, while all are forced.
+  pub write_step : (name : List ℕ) (p : Part) (n : ℕ) (page : List ℕ) (now : Folder) → IsTrue (opened name) → redo name p n (life_of name gs).since (seen page) ≡ page_in (tables_of now gs name) p n → n < count_in (tables_of now gs name) p
       → (n ≡ 0 → (maker : Maker) → (life_of name gs).last ≡ Some (Some maker) → lsn_number maker.at ≤ page_number page) → IsNeutral opened gs (length gs) now (MayWrite (file name p) n page)
   write_step name p n page now on made within first d c is (inl same) = none_done (length gs) now d c is same
   write_step name p n page now on made within first d c is (inr (inr torn)) = absurd (not_torn name p torn.0)
@@ -143,7 +143,7 @@ module _ (opened : List ℕ → Bool) (gs : List Logged) where
       by None none = absurd (no_file (life_of name gs).last (subst (IsCurrent (life_of name gs).last) none (is.current name on p)))
       by (Some pages) some = subst (IsImage opened gs (length gs) d) (sym (same ∙ ap (λ (f : Content). with_file (file name p) (option_map (put_page n page) f) d) some)) (record {
         agrees = all_forced d put (one_name name gs d put (aside name p (Some (put_page n page pages)) d)
-            (written_alike name gs p d pages some (is.current name on) n page (ap (λ (t : Option Table). page_in t p n) whole ∙ made) (subst (λ (t : Option Table). n < count_in t p) (sym whole) within) after));
+            (written_alike name gs p d pages some (is.current name on) n page (made ∙ sym (ap (λ (t : Option Table). page_in t p n) whole)) (subst (λ (t : Option Table). n < count_in t p) (sym whole) within) after));
         current = λ other lit part. now_current other part lit (same_name name other) refl;
       })
         where

@@ -1,8 +1,8 @@
 -- Laws of redo on one page.
-use Rattle.std.proofs.Common.{◌≡◌, ◌∙◌, ℕ, zero, suc, ◌<◌, ◌≤◌, Bool, true, false, cond, List, [], ◌∷◌, ◌++◌, take, drop, max, nat_lt, ap, sym, refl, subst, arith, None, Some, inl, inr}
+use Rattle.std.proofs.Common.{◌≡◌, ◌∙◌, ℕ, zero, suc, ◌<◌, ◌≤◌, Bool, true, false, cond, List, [], ◌∷◌, ◌++◌, length, take, drop, max, nat_lt, ap, sym, refl, subst, arith, None, Some, inl, inr}
 use Rattle.std.proofs.lemmas.Bool.{cases_lt}
 use Rattle.std.proofs.lemmas.Bool.Decides.{nat_tests}
-use Rattle.std.proofs.lemmas.List.{take-take, take-append-drop}
+use Rattle.std.proofs.lemmas.List.{take-take, take-append-drop, take_all}
 use Rattle.aria_page.specs.declared.edit.Edit.{Edit}
 use Rattle.aria_page.specs.declared.place.Part.{Part}
 use Rattle.aria_record.specs.Logged.{Logged}
@@ -95,3 +95,17 @@ module _ (name : List ℕ) (part : Part) (n : ℕ) where
         ap (λ (l : List Logged). redo name part n l (redo name part n (take j gs) x)) (sym parts) ∙ redo_append (take j gs) (drop j (take k gs)) (redo name part n (take j gs) x) ∙ ap (redo name part n (drop j (take k gs))) (redo_steady (take j gs) x)
         ∙ sym (redo_append (take j gs) (drop j (take k gs)) x) ∙ ap (λ (l : List Logged). redo name part n l x) parts ∙ ap (λ (i : ℕ). redo name part n (take i gs) x) (sym top)
   ]
+
+  -- redo by all of a page that was redone by a front
+  pub redo_front : (j : ℕ) (gs : List Logged) (x : Seen) → redo name part n gs (redo name part n (take j gs) x) ≡ redo name part n gs x
+  redo_front j gs x =
+      ap (λ (l : List Logged). redo name part n l (redo name part n (take j gs) x)) (sym (take_all (length gs) gs (omega arith)))
+      ∙ redo_max j (length gs) gs x ∙ ap (λ (l : List Logged). redo name part n l x) (take_all (max j (length gs)) gs (omega arith))
+
+  pub redo_none : (gs : List Logged) → redo name part n gs None ≡ None
+  redo_none [] = refl
+  redo_none (g ∷ gs) = ap (redo name part n gs) (none (edits_on name part n g.group)) ∙ redo_none gs
+    where
+      none : (es : List Edit) → stepped (number_at g.at) es None ≡ None
+      none [] = refl
+      none (e ∷ es) = refl

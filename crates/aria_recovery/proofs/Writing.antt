@@ -14,7 +14,6 @@ use Rattle.aria_host.proofs.Files.{length-put_page, get_or-put_page}
 use Rattle.aria_record.specs.Logged.{Logged}
 use Rattle.aria_recovery.specs.Redo.{Seen, Content, redo, page_seen, page_number, seen, reach}
 use Rattle.aria_recovery.specs.Tables.{Maker, life_of, is_from, begun, file, File, Table, file_of, is_there, tables_of, IsCurrent, AreCurrent, made_page, page_in, count_in}
-use Rattle.aria_recovery.proofs.Redoing.{redo_steady}
 use Rattle.aria_recovery.proofs.Stepping.{one_file}
 
 cond_seen : (b : Bool) (p q : List ℕ) → seen (cond b p q) ≡ cond b (seen p) (seen q)
@@ -71,20 +70,18 @@ module _ (name : List ℕ) (gs : List Logged) (p : Part) (d : Folder) (pages : L
   pub count_is : count_in (tables_of d gs name) p ≡ max (length pages) (reach name p since)
   count_is = ap (λ (t : Option Table). count_in t p) opened ∙ ap (λ (f : Option File). option_map_or (λ (f : File). f.count) f 0) as_it_is
 
-  -- A page of the table is written as all groups make it: the tables stay.
-  pub written_alike : (n : ℕ) (page : List ℕ) → page_in (tables_of d gs name) p n ≡ seen page → n < count_in (tables_of d gs name) p
+  -- A page of the table is written of which all groups make the same: the tables stay.
+  pub written_alike : (n : ℕ) (page : List ℕ) → redo name p n since (seen page) ≡ page_in (tables_of d gs name) p n → n < count_in (tables_of d gs name) p
       → IsCurrent (life_of name gs).last (Some (put_page n page pages))
       → tables_of d gs name ≡ tables_of (with_file (file name p) (Some (put_page n page pages)) d) gs name
   written_alike n page made within after = one_file name (life_of name gs) p d (Some (put_page n page pages))
       (there (life_of name gs).last (d (file name p)) (current p) ∙ sym (there (life_of name gs).last (Some (put_page n page pages)) after))
       (as_it_is ∙ (λ i. Some (record { count = counted i; page = λ k. at k i })) ∙ sym (ap (file_of name p since) (begun_is p (life_of name gs).last (Some (put_page n page pages)) after)))
     where
-      here : redo name p n since (page_seen pages n) ≡ seen page
-      here = sym (page_is n) ∙ made
       counted : max (length pages) (reach name p since) ≡ max (length (put_page n page pages)) (reach name p since)
       counted = omega (arith, length-put_page n page pages, subst (λ (k : ℕ). n < k) count_is within)
       steady : redo name p n since (page_seen pages n) ≡ redo name p n since (seen page)
-      steady = sym (redo_steady name p n since (page_seen pages n)) ∙ ap (redo name p n since) here
+      steady = sym (page_is n) ∙ sym made
       by : (k : ℕ) (b : Bool) → (b ≡ true → n ≡ k) → redo name p k since (page_seen pages k) ≡ redo name p k since (cond b (seen page) (page_seen pages k))
       by k true same = subst (λ (j : ℕ). redo name p j since (page_seen pages j) ≡ redo name p j since (seen page)) (same refl) steady
       by k false same = refl
