@@ -1,3 +1,4 @@
+pub mod Holding
 pub mod Seeing
 pub mod Worked
 pub mod Above

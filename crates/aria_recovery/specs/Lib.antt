@@ -1,4 +1,5 @@
 pub mod Redo
 pub mod Tables
 pub mod Images
+pub mod Frames
 pub mod Moves
