@@ -1,3 +1,4 @@
+pub mod Behind
 pub mod Frames
 pub mod Holding
 pub mod Seeing
