@@ -1,5 +1,5 @@
 -- What memory holds of the pages of tables' files, by keys.
-use Rattle.std.specs.Prelude.{◌≡◌, ◌==◌, ◌&&◌, ◌-◌, ◌<◌, ℕ, Bool, true, false, nat_lt, Option, None, Some, List, [], length, take, if◌then◌else◌}
+use Rattle.std.specs.Prelude.{◌≡◌, ◌==◌, ◌&&◌, ◌-◌, ◌<◌, ℕ, Bool, true, false, nat_eq, nat_lt, Option, None, Some, List, [], length, take, if◌then◌else◌}
 use Rattle.std.specs.Option.{option_map_or}
 use Rattle.aria_page.specs.Edit.{all_edited}
 use Rattle.aria_page.specs.declared.edit.Edit.{Edit}
@@ -90,3 +90,12 @@ redone_at groups i spot x = option_map_or (λ s. redo s.name s.part s.page (fron
 -- the edits of the next group that count for the page
 abbrev pub edits_of : List Logged → ℕ → List Record → Option Spot → List Edit
 edits_of groups i records spot = option_map_or (λ s. if nat_lt i (base_of s.name groups) then [] else edits_on s.name s.part s.page records) spot []
+
+-- no two keys stand for one page
+abbrev pub AreApart : Spots → Type 0
+AreApart place = (k j : ℕ) (s t : Spot) → place k ≡ Some s → place j ≡ Some t → same_spot s t ≡ true → nat_eq k j ≡ true
+
+-- What frames hold over a folder, once so many groups in front are redone. These are records of the next group, which will have the number `at`.
+abbrev pub FramesOver : (ℕ → Bool) → Frames → (ℕ → Bool) → Spots → Folder → List Logged → ℕ → List Record → ℕ → ℕ → Type 0
+FramesOver known frames pins place d groups i records at next =
+    FrameOn known frames pins (λ k. raw_at d (place k)) (λ k. redone_at groups i (place k) (raw_at d (place k))) (λ k. edits_of groups i records (place k)) at next
