@@ -11,12 +11,9 @@ use Rattle.aria_page.specs.declared.lsn.Lsn.{Lsn}
 use Rattle.aria_value.specs.Named.{same_name}
 use Rattle.aria_record.specs.Logged.{Logged, lsn_at_place}
 use Rattle.aria_recovery.specs.Redo.{number_at}
+use Rattle.aria_recovery.specs.Pending.{above}
 use Rattle.aria_recovery.specs.Tables.{Maker, Life, lives, life_from, life_of, says_group, told_by}
 use Rattle.aria_recovery.proofs.Numbering.{number_rises, number_rises_not}
-
--- a group behind that log sequence number
-abbrev pub above : Lsn → Logged → Bool
-above at g = nat_lt (lsn_number at) (number_at g.at)
 
 -- the groups' places rise, from there on
 abbrev pub Rises : ℕ → List Logged → Type 0

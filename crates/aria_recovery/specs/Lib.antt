@@ -2,4 +2,5 @@ pub mod Redo
 pub mod Tables
 pub mod Images
 pub mod Frames
+pub mod Pending
 pub mod Moves
