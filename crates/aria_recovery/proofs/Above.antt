@@ -3,7 +3,6 @@ use Rattle.std.proofs.Common.{◌≡◌, ◌∙◌, ℕ, ◌+◌, ◌<◌, ◌�
 use Rattle.std.specs.Prelude.{filter}
 use Rattle.std.specs.List.{AllByRecursion}
 use Rattle.std.proofs.lemmas.List.{append-nil}
-use Rattle.std.proofs.lemmas.Bool.Decides.{nat_tests}
 use Rattle.aria_record.specs.declared.record.Record.{Record}
 use Rattle.aria_record.specs.declared.record.Record.TheVariants.{CreateTable, DropTable}
 use Rattle.aria_page.specs.Lsn.{lsn_number}
@@ -14,17 +13,12 @@ use Rattle.aria_recovery.specs.Redo.{number_at}
 use Rattle.aria_recovery.specs.Pending.{above}
 use Rattle.aria_recovery.specs.Tables.{Maker, Life, lives, life_from, life_of, says_group, told_by}
 use Rattle.aria_recovery.proofs.Numbering.{number_rises, number_rises_not}
+use Rattle.aria_recovery.proofs.Comparing.{lt_true, lt_false}
 
 -- the groups' places rise, from there on
 abbrev pub Rises : ℕ → List Logged → Type 0
 Rises low [] = Unit {0}
 Rises low (g ∷ gs) = (low ≤ g.at) × Rises (g.at + 1) gs
-
-lt_true : (a b : ℕ) → a < b → nat_lt a b ≡ true
-lt_true a b low = grind (arith, nat_tests)
-
-lt_false : (a b : ℕ) → b ≤ a → nat_lt a b ≡ false
-lt_false a b high = grind (arith, nat_tests)
 
 filter_push : (at : Lsn) (gs : List Logged) (g : Logged) → filter (above at) (gs ++ g ∷ []) ≡ filter (above at) gs ++ filter (above at) (g ∷ [])
 filter_push at [] g = refl

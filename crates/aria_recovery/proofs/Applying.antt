@@ -2,7 +2,6 @@
 use Rattle.std.proofs.Common.{◌≡◌, ◌∙◌, ℕ, zero, suc, ◌+◌, ◌-◌, ◌<◌, ◌≤◌, Bool, true, false, cond, List, [], ◌∷◌, ◌++◌, length, take, nat_lt, ap, sym, refl, subst, arith, length-append, append_assoc, Option, None, Some, inl, inr}
 use Rattle.std.specs.Option.{option_map, option_map_or}
 use Rattle.std.proofs.lemmas.Bool.{cases_lt}
-use Rattle.std.proofs.lemmas.Bool.Decides.{nat_tests}
 use Rattle.std.proofs.lemmas.List.{take-append-le, take_all, length_push}
 use Rattle.std.proofs.Math.Seq.{take-append-add}
 use Rattle.aria_page.specs.Edit.{all_edited}
@@ -14,9 +13,7 @@ use Rattle.aria_recovery.specs.Redo.{Seen, Content, number_at, edits_on, is_some
 use Rattle.aria_recovery.specs.Tables.{Maker, Life, Table, File, lives, life_of, told_by, is_from, begun, file, file_of, table_of, tables_of, made_page, page_in, body_in}
 use Rattle.aria_recovery.specs.Moves.{Versions, Bodies, bodies_of, body_after, after_group, applied, Applies}
 use Rattle.aria_recovery.proofs.Agreeing.{AreOlder, life_push, table_push, grown, grown_file}
-
-lt_true : (a b : ℕ) → a < b → nat_lt a b ≡ true
-lt_true a b low = grind (arith, nat_tests)
+use Rattle.aria_recovery.proofs.Comparing.{lt_true}
 
 -- the page stands before that number, where it is sound
 abbrev pub IsUnder : ℕ → Seen → Type 0

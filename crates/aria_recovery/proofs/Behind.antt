@@ -1,7 +1,6 @@
 -- Redo goes once through the groups: what so many in front make of a page, and one more.
 use Rattle.std.proofs.Common.{◌≡◌, ◌∙◌, ℕ, zero, suc, ◌+◌, ◌-◌, ◌<◌, ◌≤◌, Bool, true, false, cond, List, [], ◌∷◌, ◌++◌, length, take, drop, nat_lt, ap, sym, refl, subst, arith, length-append, append_assoc, Option, None, Some, inl, inr}
 use Rattle.std.proofs.lemmas.Bool.{cases_lt}
-use Rattle.std.proofs.lemmas.Bool.Decides.{nat_tests}
 use Rattle.std.proofs.lemmas.List.{append-nil, take_all, length-drop, drop-append-le, length_push}
 use Rattle.std.proofs.Math.Seq.{drop-append_seam, take-append-add}
 use Rattle.aria_page.specs.declared.edit.Edit.{Edit}
@@ -13,12 +12,7 @@ use Rattle.aria_recovery.specs.Tables.{Maker, Life, lives, life_from, life_of, t
 use Rattle.aria_recovery.specs.Frames.{Spot, base_of, front_of, redone_at, edits_of}
 use Rattle.aria_recovery.proofs.Redoing.{redo_append, redo_steady, redo_none}
 use Rattle.aria_recovery.proofs.Agreeing.{life_push}
-
-lt_true : (a b : ℕ) → a < b → nat_lt a b ≡ true
-lt_true a b low = grind (arith, nat_tests)
-
-lt_false : (a b : ℕ) → b ≤ a → nat_lt a b ≡ false
-lt_false a b high = grind (arith, nat_tests)
+use Rattle.aria_recovery.proofs.Comparing.{lt_true, lt_false}
 
 -- the groups since are the last ones
 record Ends (gs since : List Logged) : Type 0 where

@@ -7,18 +7,17 @@ use Rattle.aria_page.specs.declared.place.Part.{Part}
 use Rattle.aria_host.specs.Folder.{Folder}
 use Rattle.aria_host.specs.State.{State}
 use Rattle.aria_host.specs.Steps.{Follows}
-use Rattle.aria_host.specs.Calls.{TellsNothing, Syncs}
-use Rattle.aria_host.proofs.Moments.{started, goes_on, joined}
+use Rattle.aria_host.specs.Calls.{TellsNothing, Narrows, Syncs}
+use Rattle.aria_host.specs.Moments.{LeavesOthers}
+use Rattle.aria_host.specs.Folder.{is_log}
+use Rattle.aria_host.proofs.Moments.{OnlyNow, started, goes_on, joined, sync_narrows}
 use Rattle.aria_record.specs.Logged.{Logged}
 use Rattle.aria_value.specs.Named.{same_name}
 use Rattle.aria_recovery.specs.Tables.{Maker, Life, life_of, lives, told_by, file, Agrees, IsCurrent, AreCurrent}
 use Rattle.aria_recovery.specs.Images.{IsImage, AreImages, AtTables, Calm}
 use Rattle.aria_recovery.proofs.Agreeing.{AreOlder, life_push, agrees_self, agrees_on, agrees_forced, agrees_push}
-use Rattle.aria_recovery.proofs.Imaging.{images_after}
-
--- this moment alone
-abbrev pub IsNow : State → Type 0
-IsNow s = (c : Folder) (b : List ℕ) → s.since s.moment c b → s.may_leave c × (b ≡ s.out)
+use Rattle.aria_recovery.proofs.Imaging.{images_after, log_step}
+use Rattle.aria_recovery.proofs.Stepping.{tables_same, no_log}
 
 abbrev none_told : List ℕ
 none_told = []
@@ -28,7 +27,7 @@ nothing zero = refl
 nothing (suc n) = refl
 
 module _ (opened : List ℕ → Bool) where
-  pub calm_none : (s : State) (gs : List Logged) (forced : ℕ) → IsNow s → AreImages opened s gs forced → Calm opened s s gs forced
+  pub calm_none : (s : State) (gs : List Logged) (forced : ℕ) → OnlyNow s → AreImages opened s gs forced → Calm opened s s gs forced
   calm_none s gs forced only images = record {
     moments = started s (AtTables s gs forced) (λ c b left. let now = only c b left in record { agrees = (images c now.0).agrees; told_is = now.1 });
     images = images;
@@ -38,7 +37,7 @@ module _ (opened : List ℕ → Bool) where
   }
 
   -- one call
-  pub calm_call : (s t : State) (gs : List Logged) (forced : ℕ) (step : Folder → Folder → Type 0) → IsNow s → t.may_leave t.folder → AreImages opened s gs forced
+  pub calm_call : (s t : State) (gs : List Logged) (forced : ℕ) (step : Folder → Folder → Type 0) → OnlyNow s → t.may_leave t.folder → AreImages opened s gs forced
       → ((d c : Folder) → s.may_leave d → step d c → IsImage opened gs forced d c) → Follows step s t → TellsNothing s t → Calm opened s t gs forced
   calm_call s t gs forced step only now images neutral follows tells = record {
     moments = goes_on s s t none_told (AtTables s gs forced) (calm_none s gs forced only images).moments tells.time
@@ -64,12 +63,27 @@ module _ (opened : List ℕ → Bool) where
     err = second.err ∙ first.err;
   }
 
-  -- a sync
-  pub calm_sync : (s t : State) (gs : List Logged) (forced : ℕ) (name : List ℕ) (p : Part) (done : Bool) → IsNow s → t.may_leave t.folder → AreImages opened s gs forced → Syncs (file name p) s t done → Calm opened s t gs forced
-  calm_sync s t gs forced name p done only now images synced = calm_call s t gs forced (λ d c. c ≡ d) only now images
+  -- a call that only looks, and may bring something to the disk
+  pub calm_look : (s t : State) (gs : List Logged) (forced : ℕ) → OnlyNow s → t.may_leave t.folder → AreImages opened s gs forced → Narrows s t → Calm opened s t gs forced
+  calm_look s t gs forced only now images looks = calm_call s t gs forced (λ d c. c ≡ d) only now images
       (λ d c left same. record { agrees = subst (λ (f : Folder). Agrees gs forced d f) (sym same) (agrees_self gs forced d);
         current = λ other on part. subst (λ (f : Folder). IsCurrent (life_of other gs).last (f (file other part))) (sym same) ((images d left).current other on part) })
-      (λ c leaves. (c, synced.no_more c leaves, refl)) synced.tells
+      (λ c leaves. (c, looks.no_more c leaves, refl)) looks.tells
+
+  -- a sync
+  pub calm_sync : (s t : State) (gs : List Logged) (forced : ℕ) (name : List ℕ) (p : Part) (done : Bool) → OnlyNow s → t.may_leave t.folder → AreImages opened s gs forced → Syncs (file name p) s t done → Calm opened s t gs forced
+  calm_sync s t gs forced name p done only now images synced = calm_look s t gs forced only now images (sync_narrows s t synced)
+
+  -- the log's files alone are written
+  pub images_log : (s t : State) (gs : List Logged) (forced : ℕ) → AreImages opened s gs forced → LeavesOthers is_log s t → AreImages opened t gs forced
+  images_log s t gs forced images others c leaves =
+      let to = others.images c leaves in
+      let after = log_step opened gs forced s.folder to.0 c to.2 (images to.0 to.1) in record {
+        agrees = agrees_on gs forced t.folder s.folder c
+            (record { tables = λ m lo hi name. tables_same s.folder t.folder (take m gs) name (λ part. others.folder (file name part) (no_log name part)) })
+            (agrees_on gs forced s.folder to.0 c (images to.0 to.1).agrees after.agrees);
+        current = after.current;
+      }
 
   -- A group more: a group that makes files finds older ones or none, and one that makes or drops files is of no open table.
   pub image_push : (gs : List Logged) (g : Logged) (forced : ℕ) (d c : Folder) → forced ≤ length gs

@@ -19,7 +19,8 @@ use Rattle.aria_recovery.specs.Images.{AreImages, Calm}
 use Rattle.aria_recovery.proofs.Stepping.{apart_part}
 use Rattle.aria_recovery.proofs.Imaging.{create_step, first_step, removed_step, dropped_step, put_empty}
 use Rattle.aria_recovery.proofs.Naming.{names_write}
-use Rattle.aria_recovery.proofs.Calming.{IsNow, calm_call, calm_on, calm_sync, image_opened}
+use Rattle.aria_recovery.proofs.Calming.{calm_call, calm_on, calm_sync, image_opened}
+use Rattle.aria_host.proofs.Moments.{OnlyNow}
 
 -- the file as it is in each image
 abbrev pub InAll : State → List ℕ → Part → Content → Type 0
@@ -27,7 +28,7 @@ InAll s name p content = (c : Folder) → s.may_leave c → c (file name p) ≡ 
 
 -- what every host's state has: this moment alone, and the folder as it reads
 pub record IsSteady (s : State) : Type 0 where
-  pub only : IsNow s
+  pub only : OnlyNow s
   pub now : s.may_leave s.folder
 
 -- A file was made or removed for good: so it is in each image.

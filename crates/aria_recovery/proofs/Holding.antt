@@ -1,17 +1,11 @@
 -- What each step does to a page that is held, or isn't.
 use Rattle.std.proofs.Common.{◌≡◌, ◌∙◌, ◌&&◌, ℕ, ◌<◌, ◌≤◌, Bool, true, false, cond, List, [], ◌∷◌, ◌++◌, nat_lt, ap, sym, refl, subst, arith, Option, None, Some}
 use Rattle.std.specs.Option.{option_map}
-use Rattle.std.proofs.lemmas.Bool.Decides.{nat_tests}
 use Rattle.aria_page.specs.Edit.{all_edited, edited}
 use Rattle.aria_page.specs.declared.edit.Edit.{Edit}
 use Rattle.aria_recovery.specs.Redo.{Seen, is_some_edit, is_before, stepped, topped}
 use Rattle.aria_recovery.specs.Frames.{Held, as_seen, dirty_of, edited_held, stamped, cleaned, PageOn}
-
-lt_true : (a b : ℕ) → a < b → nat_lt a b ≡ true
-lt_true a b low = grind (arith, nat_tests)
-
-lt_false : (a b : ℕ) → b ≤ a → nat_lt a b ≡ false
-lt_false a b high = grind (arith, nat_tests)
+use Rattle.aria_recovery.proofs.Comparing.{lt_true, lt_false}
 
 pub all_edited_append : (es fs : List Edit) (body : List ℕ) → all_edited (es ++ fs) body ≡ all_edited fs (all_edited es body)
 all_edited_append [] fs body = refl

@@ -19,7 +19,7 @@ use Rattle.aria_recovery.specs.Redo.{Content, page_number, seen, same_part, redo
 use Rattle.aria_recovery.specs.Tables.{Maker, life_of, is_from, begun, file, File, Table, is_there, file_of, tables_of, Agrees, IsCurrent, AreCurrent, made_page, page_in, count_in}
 use Rattle.aria_recovery.specs.Images.{IsImage, AreImages, IsNeutral}
 use Rattle.aria_recovery.proofs.Agreeing.{agrees_self, agrees_sym, agrees_on}
-use Rattle.aria_recovery.proofs.Stepping.{apart_part, part_is, Aside, aside, one_name, table_alike, dropped_alike, removed_none, older_alike, begun_older, made_alike}
+use Rattle.aria_recovery.proofs.Stepping.{no_log, not_torn, apart_part, part_is, Aside, aside, one_name, table_alike, dropped_alike, removed_none, older_alike, begun_older, made_alike}
 use Rattle.aria_recovery.proofs.Writing.{written_alike, current_put}
 
 module _ (opened : List ℕ → Bool) (gs : List Logged) where
@@ -55,9 +55,6 @@ module _ (opened : List ℕ → Bool) (gs : List Logged) where
     current = λ name on part. subst (λ (f : Content). IsCurrent (life_of name gs).last f) (sym (others (file name part) (no_log name part))) (is.current name on part);
   }
     where
-      no_log : (name : List ℕ) (part : Part) → is_log (file name part) ≡ false
-      no_log name Keys = refl
-      no_log name Rows = refl
       is_there_of : (name : List ℕ) (m : ℕ) (f : Content) → Bool
       is_there_of name m f = is_there (life_of name (take m gs)).last f
       file_at : (name : List ℕ) (m : ℕ) (part : Part) (f : Content) → Option File
@@ -104,11 +101,6 @@ module _ (opened : List ℕ → Bool) (gs : List Logged) where
   create_step name p now d c content done maker closed made old empty is (inr (failed, same)) = none_done (length gs) now d c is same
   create_step name p now d c content done maker closed made old empty is (inl same) = subst (IsImage opened gs (length gs) d) (sym same)
       (made_step name p now d content maker closed made old (begun_older p maker content empty) is)
-
-  -- no table's file is one of the log's
-  not_torn : (name : List ℕ) (p : Part) → IsTrue (is_log (file name p)) → ⊥
-  not_torn name Keys log = (cc)
-  not_torn name Rows log = (cc)
 
   pub put_empty : (page : List ℕ) → put_page 0 page [] ≡ page ∷ []
   unfolding put_page

@@ -1,3 +1,4 @@
+pub mod Comparing
 pub mod Pending
 pub mod Over
 pub mod Behind

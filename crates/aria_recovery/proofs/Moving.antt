@@ -1,27 +1,22 @@
 -- One call after another: groups are added, and tables stay or change by them.
-use Rattle.std.proofs.Common.{◌≡◌, ◌∙◌, ◌⊎◌, ℕ, ◌+◌, ◌<◌, ◌≤◌, Bool, true, false, cond, List, [], ◌∷◌, ◌++◌, length, take, nat_le, ap, sym, refl, subst, arith, length-append, append_assoc, inl, inr}
+use Rattle.std.proofs.Common.{◌≡◌, ◌∙◌, ◌⊎◌, ℕ, ◌+◌, ◌<◌, ◌≤◌, Bool, true, false, cond, List, [], ◌∷◌, ◌++◌, length, take, nat_le, ap, sym, refl, subst, arith, length-append, append_assoc, None, Some, inl, inr}
 use Rattle.std.proofs.lemmas.Bool.{cases_lt}
-use Rattle.std.proofs.lemmas.Bool.Decides.{nat_tests}
-use Rattle.std.proofs.lemmas.List.{take-append-le, append-nil}
+use Rattle.std.specs.Prelude.{IsTrue}
+use Rattle.std.proofs.lemmas.List.{take-append-le, append-nil, length_push}
 use Rattle.aria_page.specs.declared.place.Part.{Part}
-use Rattle.aria_page.specs.declared.place.Part.TheVariants.{Keys}
-use Rattle.aria_host.specs.Folder.{Folder}
+use Rattle.aria_host.specs.Folder.{Folder, is_log}
+use Rattle.aria_host.specs.Moments.{Left, Moments}
 use Rattle.aria_host.specs.State.{State, LeavesOnly}
-use Rattle.aria_host.proofs.Moments.{joined, weakened}
+use Rattle.aria_host.proofs.Moments.{OnlyNow, joined, weakened}
 use Rattle.aria_record.specs.Logged.{Logged}
-use Rattle.aria_recovery.specs.Redo.{Content}
-use Rattle.aria_recovery.specs.Tables.{life_of, is_there, file_of, begun, file, tables_of, Agrees}
+use Rattle.aria_recovery.specs.Tables.{Maker, told_by, file, tables_of, Agrees}
 use Rattle.aria_recovery.specs.Images.{AreImages, AtTables, Calm}
 use Rattle.aria_recovery.specs.Moves.{Versions, HasFront, AtFront, Applies, Moves}
-use Rattle.aria_recovery.proofs.Stepping.{table_alike}
-use Rattle.aria_recovery.proofs.Calming.{IsNow, calm_none}
-use Rattle.aria_recovery.proofs.Applying.{applies_none, applies_on}
-
-le_true : (a b : ℕ) → a ≤ b → nat_le a b ≡ true
-le_true a b low = grind (arith, nat_tests)
-
-le_false : (a b : ℕ) → b < a → nat_le a b ≡ false
-le_false a b high = grind (arith, nat_tests)
+use Rattle.aria_recovery.proofs.Stepping.{tables_same, no_log}
+use Rattle.aria_recovery.proofs.Calming.{calm_none, images_log, image_push, image_forced}
+use Rattle.aria_recovery.proofs.Applying.{Meets, applies_none, applies_one, applies_on}
+use Rattle.aria_recovery.proofs.Agreeing.{AreOlder}
+use Rattle.aria_recovery.proofs.Comparing.{le_true, le_false}
 
 -- the first tables up to a number of groups, and the other ones behind it
 abbrev pub both : ℕ → Versions → Versions → Versions
@@ -50,13 +45,9 @@ at_once a b P Q first second = record {
     by t c told (inr one) (inl was) = inl was
     by t c told (inr one) (inr other) = inr (record { one = one; other = other })
 
--- folders with the same files of tables
-pub tables_same : (d c : Folder) (gs : List Logged) (name : List ℕ) → ((part : Part) → c (file name part) ≡ d (file name part)) → tables_of c gs name ≡ tables_of d gs name
-tables_same d c gs name same = table_alike name (life_of name gs) c d (ap (is_there (life_of name gs).last) (same Keys)) (λ part. ap (λ (f : Content). file_of name part (life_of name gs).since (begun part (life_of name gs).last f)) (same part))
-
 module _ (HoldsLog : Folder → List Logged → Type 0) (opened : List ℕ → Bool) where
   -- THE TABLES STAY: no group is added or forced
-  pub moves_calm : (old new : State) (gs : List Logged) (forced : ℕ) → forced ≤ length gs → Calm opened old new gs forced → LeavesOnly old new (HasFront HoldsLog gs forced) → Moves HoldsLog opened old new gs gs forced forced
+  pub moves_calm : (old new : State) (gs : List Logged) (forced : ℕ) → forced ≤ length gs → Calm opened old new gs forced → LeavesOnly old new (λ c told. HasFront HoldsLog gs forced c) → Moves HoldsLog opened old new gs gs forced forced
   moves_calm old new gs forced within calm fronts = record {
     more = [];
     grows = sym (append-nil gs);
@@ -66,8 +57,8 @@ module _ (HoldsLog : Folder → List Logged → Type 0) (opened : List ℕ → B
     starts = λ m lo hi name. refl;
     ends = λ m lo hi name. calm.folder.tables m lo hi name;
     applies = applies_none all (length gs);
-    moments = weakened old new (Both (AtTables old gs forced) (HasFront HoldsLog gs forced)) (AtFront HoldsLog all gs forced old.out)
-        (at_once old new (AtTables old gs forced) (HasFront HoldsLog gs forced) calm.moments fronts) (λ c told at. record {
+    moments = weakened old new (Both (AtTables old gs forced) (λ c told. HasFront HoldsLog gs forced c)) (AtFront HoldsLog all gs forced old.out)
+        (at_once old new (AtTables old gs forced) (λ c told. HasFront HoldsLog gs forced c) calm.moments fronts) (λ c told at. record {
           count = at.other.count;
           from = at.other.from;
           within = at.other.within;
@@ -84,7 +75,7 @@ module _ (HoldsLog : Folder → List Logged → Type 0) (opened : List ℕ → B
       all m name = tables_of old.folder (take m gs) name
 
   -- nothing is done
-  pub moves_none : (s : State) (gs : List Logged) (forced : ℕ) → forced ≤ length gs → IsNow s → AreImages opened s gs forced → LeavesOnly s s (HasFront HoldsLog gs forced) → Moves HoldsLog opened s s gs gs forced forced
+  pub moves_none : (s : State) (gs : List Logged) (forced : ℕ) → forced ≤ length gs → OnlyNow s → AreImages opened s gs forced → LeavesOnly s s (λ c told. HasFront HoldsLog gs forced c) → Moves HoldsLog opened s s gs gs forced forced
   moves_none s gs forced within only images fronts = moves_calm s s gs forced within (calm_none opened s gs forced only images) fronts
 
   -- ONE AFTER ANOTHER
@@ -175,3 +166,40 @@ module _ (HoldsLog : Folder → List Logged → Type 0) (opened : List ℕ → B
     out = out;
     err = err;
   }
+
+  -- What a crash leaves at each moment while the log alone is written, from the log's own moments.
+  log_moments : (old new : State) (groups : List Logged) (forced : ℕ) → Moments is_log old new (HasFront HoldsLog groups forced) → LeavesOnly old new (AtLog old groups forced)
+  log_moments old new groups forced is = weakened old new (Left is_log old (HasFront HoldsLog groups forced)) (AtLog old groups forced) is.moments (λ c told at. record {
+    count = at.has.count;
+    from = at.has.from;
+    within = at.has.within;
+    log = at.has.log;
+    before = at.others.0;
+    left = at.others.1;
+    same = λ name part. at.others.2 (file name part) (no_log name part);
+    told_is = at.told_is;
+  })
+
+  -- A GROUP IS APPENDED: it stands behind the pages that it edits, finds older files or none where it makes a table, and says nothing of the files of open tables.
+  pub moves_append : (old new : State) (gs : List Logged) (g : Logged) (forced : ℕ) → forced ≤ length gs → AreImages opened old gs forced → ((name : List ℕ) → Meets old.folder gs g name)
+      → ((name : List ℕ) (maker : Maker) (d : Folder) → told_by name g ≡ Some (Some maker) → old.may_leave d → AreOlder name maker.at d) → ((name : List ℕ) → IsTrue (opened name) → told_by name g ≡ None)
+      → Moments is_log old new (HasFront HoldsLog (gs ++ g ∷ []) forced) → Moves HoldsLog opened old new gs (gs ++ g ∷ []) forced forced
+  moves_append old new gs g forced few images meets older shut moments =
+      moves_log old new gs (g ∷ []) forced forced (omega arith) (omega (arith, few, length_push gs g)) (λ d left. (pushed d left).agrees) (applies_one old.folder gs g meets) (log_moments old new (gs ++ g ∷ []) forced moments)
+        (λ name part. moments.others.folder (file name part) (no_log name part)) (images_log opened old new (gs ++ g ∷ []) forced pushed moments.others) moments.others.out moments.others.err
+    where
+      pushed : AreImages opened old (gs ++ g ∷ []) forced
+      pushed d left = image_push opened gs g forced old.folder d few (λ name maker told. ((meets name).older maker told, older name maker d told left)) shut (images d left)
+
+  -- ALL GROUPS ARE FORCED
+  pub moves_force : (old new : State) (gs : List Logged) (forced forced' : ℕ) → forced ≤ forced' → forced' ≤ length gs → AreImages opened old gs forced → Moments is_log old new (HasFront HoldsLog gs forced)
+      → Moves HoldsLog opened old new gs gs forced forced'
+  moves_force old new gs forced forced' more few images moments =
+      subst (λ (l : List Logged). Moves HoldsLog opened old new gs l forced forced') (append-nil gs)
+        (moves_log old new gs [] forced forced' more (subst (λ (l : List Logged). forced' ≤ length l) (sym (append-nil gs)) few)
+          (λ d left. subst (λ (l : List Logged). Agrees l forced old.folder d) (sym (append-nil gs)) (images d left).agrees)
+          (applies_none (λ m name. tables_of old.folder (take m (gs ++ [])) name) (length gs))
+          (subst (λ (l : List Logged). LeavesOnly old new (AtLog old l forced)) (sym (append-nil gs)) (log_moments old new gs forced moments))
+          (λ name part. moments.others.folder (file name part) (no_log name part))
+          (subst (λ (l : List Logged). AreImages opened new l forced') (sym (append-nil gs)) (λ c leaves. image_forced opened gs forced forced' new.folder c more (images_log opened old new gs forced images moments.others c leaves)))
+          moments.others.out moments.others.err)

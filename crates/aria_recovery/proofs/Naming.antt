@@ -4,14 +4,17 @@ use Rattle.std.specs.Prelude.{is_some}
 use Rattle.std.specs.Option.{option_map}
 use Rattle.aria_page.specs.declared.lsn.Lsn.{Lsn}
 use Rattle.aria_page.specs.declared.place.Part.{Part}
+use Rattle.aria_page.specs.declared.place.Part.TheVariants.{Keys, Rows}
 use Rattle.aria_host.specs.declared.file_name.FileName.{FileName}
 use Rattle.aria_host.specs.Folder.{Folder, with_file, with_page, put_page, same_file}
+use Rattle.aria_host.specs.Calls.{HaveNames}
+use Rattle.aria_host.specs.State.{State}
 use Rattle.aria_host.specs.Steps.{MayMake, MayWrite}
 use Rattle.aria_host.proofs.Files.{same_file-true}
 use Rattle.aria_recovery.specs.Redo.{Content}
 use Rattle.aria_recovery.specs.Tables.{file, is_from}
 use Rattle.aria_recovery.specs.Images.{SameNames}
-use Rattle.aria_recovery.proofs.Raising.{not_torn}
+use Rattle.aria_recovery.proofs.Stepping.{not_torn}
 
 pub names_make : (f : FileName) (content : Content) (now d c : Folder) → SameNames now d → MayMake f content true d c → SameNames (with_file f content now) c
 names_make f content now d c is (inr (failed, same)) = absurd (cc)
@@ -46,3 +49,8 @@ names_older now c name part at is none = by (c (file name part)) (is name part �
     by : (content : Content) → is_some content ≡ false → is_from at content ≡ false
     by None gone = refl
     by (Some pages) gone = absurd (cc)
+
+-- every image has the names as they were listed
+pub names_listed : (s : State) (c : Folder) → HaveNames s → s.may_leave c → SameNames s.folder c
+names_listed s c listed leaves name Keys = listed c leaves (file name Keys) tt
+names_listed s c listed leaves name Rows = listed c leaves (file name Rows) tt

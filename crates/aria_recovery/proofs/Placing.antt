@@ -3,7 +3,6 @@ use Rattle.std.proofs.Common.{◌≡◌, ◌==◌, ◌∙◌, ◌&&◌, ℕ, ◌
 use Rattle.std.specs.Option.{option_map}
 use Rattle.std.specs.Cmp.Lexicographic.{bytes_decides}
 use Rattle.std.proofs.lemmas.Bool.{eqb-true, eq-eqb}
-use Rattle.std.proofs.lemmas.Bool.Decides.{nat_tests}
 use Rattle.std.proofs.lemmas.List.{append-nil}
 use Rattle.aria_page.specs.declared.edit.Edit.{Edit}
 use Rattle.aria_page.specs.declared.group.RedoKind.{RedoKind}
@@ -22,12 +21,7 @@ use Rattle.aria_recovery.specs.Frames.{Spot, Spots, same_spot, raw_at, base_of, 
 use Rattle.aria_recovery.proofs.Stepping.{part_is}
 use Rattle.aria_recovery.proofs.Writing.{seen_put}
 use Rattle.aria_recovery.proofs.Behind.{edits_push}
-
-lt_true : (a b : ℕ) → a < b → nat_lt a b ≡ true
-lt_true a b low = grind (arith, nat_tests)
-
-lt_false : (a b : ℕ) → b ≤ a → nat_lt a b ≡ false
-lt_false a b high = grind (arith, nat_tests)
+use Rattle.aria_recovery.proofs.Comparing.{lt_true, lt_false}
 
 spot_self : (s : Spot) → same_spot s s ≡ true
 spot_self s = ap (λ (b : Bool). b && (s.page == s.page)) (same_file-refl (file s.name s.part)) ∙ eq-eqb s.page s.page refl

@@ -12,6 +12,7 @@ use Rattle.aria_host.proofs.Files.{with_file-other, same_file-true, get_or-put_p
 use Rattle.aria_recovery.specs.Redo.{Seen, Content, seen}
 use Rattle.aria_recovery.specs.Tables.{file}
 use Rattle.aria_recovery.specs.Images.{page_of, IsBelow, Raises}
+use Rattle.aria_recovery.proofs.Stepping.{not_torn}
 
 pub raises_none : (bound : ℕ) (d : Folder) → Raises bound d d
 raises_none bound d name part n = inl refl
@@ -52,10 +53,6 @@ raises_file bound name p content d each other part n = by (same_file (file name 
             → (page_of (with_file (file name p) content d) other part n ≡ page_of d other part n) ⊎ IsBelow bound (page_of (with_file (file name p) content d) other part n)
         either now was (inl same) = inl (now ∙ same ∙ was)
         either now was (inr below) = inr (subst (IsBelow bound) (sym now) below)
-
-pub not_torn : (name : List ℕ) (p : Part) → IsTrue (is_log (file name p)) → ⊥
-not_torn name Keys log = (cc)
-not_torn name Rows log = (cc)
 
 -- a page is written that is below
 pub raises_write : (bound : ℕ) (name : List ℕ) (p : Part) (n : ℕ) (page : List ℕ) (d c : Folder) → IsBelow bound (seen page) → MayWrite (file name p) n page d c → Raises bound d c

@@ -1,19 +1,13 @@
 -- Laws of redo on one page.
 use Rattle.std.proofs.Common.{◌≡◌, ◌∙◌, ℕ, zero, suc, ◌<◌, ◌≤◌, Bool, true, false, cond, List, [], ◌∷◌, ◌++◌, length, take, drop, max, nat_lt, ap, sym, refl, subst, arith, None, Some, inl, inr}
 use Rattle.std.proofs.lemmas.Bool.{cases_lt}
-use Rattle.std.proofs.lemmas.Bool.Decides.{nat_tests}
 use Rattle.std.proofs.lemmas.List.{take-take, take-append-drop, take_all}
 use Rattle.aria_page.specs.declared.edit.Edit.{Edit}
 use Rattle.aria_page.specs.declared.place.Part.{Part}
 use Rattle.aria_record.specs.Logged.{Logged}
 use Rattle.aria_page.specs.Edit.{all_edited}
 use Rattle.aria_recovery.specs.Redo.{Seen, edits_on, stepped, redo, number_at}
-
-lt_true : (a b : ℕ) → a < b → nat_lt a b ≡ true
-lt_true a b low = grind (arith, nat_tests)
-
-lt_false : (a b : ℕ) → b ≤ a → nat_lt a b ≡ false
-lt_false a b high = grind (arith, nat_tests)
+use Rattle.aria_recovery.proofs.Comparing.{lt_true, lt_false}
 
 -- the page has a log sequence number from there on, where it is sound
 abbrev pub IsFrom : ℕ → Seen → Type 0

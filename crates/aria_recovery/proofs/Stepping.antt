@@ -1,11 +1,11 @@
 -- Steps of one table's files that leave the tables alone.
 use Rattle.std.proofs.Common.{◌≡◌, ◌∙◌, ℕ, Bool, true, false, cond, List, [], ◌∷◌, ap, sym, refl, subst, Option, None, Some, inl, inr}
-use Rattle.std.specs.Prelude.{is_some}
+use Rattle.std.specs.Prelude.{is_some, IsTrue}
 use Rattle.std.specs.Cmp.Lexicographic.{bytes_decides}
 use Rattle.std.proofs.lemmas.Bool.{cases_Bool}
 use Rattle.aria_page.specs.declared.place.Part.{Part}
 use Rattle.aria_page.specs.declared.place.Part.TheVariants.{Keys, Rows}
-use Rattle.aria_host.specs.Folder.{Folder, same_file, with_file}
+use Rattle.aria_host.specs.Folder.{Folder, is_log, same_file, with_file}
 use Rattle.aria_host.proofs.Files.{with_file-same, with_file-other}
 use Rattle.aria_record.specs.Logged.{Logged}
 use Rattle.aria_value.specs.Named.{same_name}
@@ -107,3 +107,16 @@ begun_older p maker content old = ap (λ (b : Bool). cond b content (Some (made_
 
 pub begun_current : (p : Part) (maker : Maker) (content : Content) → is_from maker.at content ≡ true → begun p (Some (Some maker)) content ≡ content
 begun_current p maker content new = ap (λ (b : Bool). cond b content (Some (made_page maker p ∷ []))) new
+
+-- folders with the same files of tables
+pub tables_same : (d c : Folder) (gs : List Logged) (name : List ℕ) → ((part : Part) → c (file name part) ≡ d (file name part)) → tables_of c gs name ≡ tables_of d gs name
+tables_same d c gs name same = table_alike name (life_of name gs) c d (ap (is_there (life_of name gs).last) (same Keys)) (λ part. ap (λ (f : Content). file_of name part (life_of name gs).since (begun part (life_of name gs).last f)) (same part))
+
+-- no table's file is one of the log's
+pub no_log : (name : List ℕ) (part : Part) → is_log (file name part) ≡ false
+no_log name Keys = refl
+no_log name Rows = refl
+
+pub not_torn : (name : List ℕ) (p : Part) → IsTrue (is_log (file name p)) → ⊥
+not_torn name Keys log = (cc)
+not_torn name Rows log = (cc)

@@ -2,7 +2,6 @@
 use Rattle.std.proofs.Common.{◌≡◌, ◌==◌, ◌∙◌, ℕ, zero, suc, ◌-◌, ◌<◌, ◌≤◌, Bool, true, false, cond, List, [], ◌∷◌, ◌++◌, length, replicate, max, nat_le, ap, sym, refl, subst, arith, Option, None, Some}
 use Rattle.std.specs.Option.{option_map_or}
 use Rattle.std.proofs.lemmas.Bool.{eqb-true}
-use Rattle.std.proofs.lemmas.Bool.Decides.{nat_tests}
 use Rattle.aria_page.specs.declared.lsn.Lsn.{Lsn}
 use Rattle.aria_page.specs.Lsn.{lsn_number}
 use Rattle.aria_page.specs.Page.{zero_page}
@@ -15,6 +14,7 @@ use Rattle.aria_record.specs.Logged.{Logged}
 use Rattle.aria_recovery.specs.Redo.{Seen, Content, redo, page_seen, page_number, seen, reach}
 use Rattle.aria_recovery.specs.Tables.{Maker, life_of, is_from, begun, file, File, Table, file_of, is_there, tables_of, IsCurrent, AreCurrent, made_page, page_in, count_in}
 use Rattle.aria_recovery.proofs.Stepping.{one_file}
+use Rattle.aria_recovery.proofs.Comparing.{le_true}
 
 cond_seen : (b : Bool) (p q : List ℕ) → seen (cond b p q) ≡ cond b (seen p) (seen q)
 cond_seen true p q = refl
@@ -23,9 +23,6 @@ cond_seen false p q = refl
 -- the pages after one was put
 pub seen_put : (n k : ℕ) (page : List ℕ) (pages : List (List ℕ)) → page_seen (put_page n page pages) k ≡ cond (n == k) (seen page) (page_seen pages k)
 seen_put n k page pages = ap seen (get_or-put_page n k page pages) ∙ cond_seen (n == k) page (page_or_zero k (Some pages))
-
-le_true : (a b : ℕ) → a ≤ b → nat_le a b ≡ true
-le_true a b low = grind (arith, nat_tests)
 
 -- a file whose first page is written anew, or stays, isn't older than it was
 from_put : (at : Lsn) (n : ℕ) (page : List ℕ) (pages : List (List ℕ)) → is_from at (Some pages) ≡ true → (n ≡ 0 → lsn_number at ≤ page_number page) → is_from at (Some (put_page n page pages)) ≡ true

@@ -46,7 +46,7 @@ AreTables tables d groups forced = (m : ℕ) → forced ≤ m → m ≤ length g
 
 module _ (HoldsLog : Folder → List Logged → Type 0) where
   -- the log is a front of the groups, of at least so many
-  pub record HasFront (groups : List Logged) (forced : ℕ) (c : Folder) (told : List ℕ) : Type 0 where
+  pub record HasFront (groups : List Logged) (forced : ℕ) (c : Folder) : Type 0 where
     pub count : ℕ
     pub from : forced ≤ count
     pub within : count ≤ length groups
