@@ -3,15 +3,17 @@ use Rattle.std.proofs.Common.{◌≡◌, ℕ, false, List, [], ◌∷◌, None, 
 use Rattle.aria_page.specs.Lsn.{lsn_of}
 use Rattle.aria_page.specs.Number.{number_of}
 use Rattle.aria_page.specs.Page.{page_lsn}
+use Rattle.aria_page.specs.declared.lsn.Lsn.{Lsn}
 use Rattle.aria_page.specs.declared.edit.Edit.TheVariants.{Set}
 use Rattle.aria_page.specs.declared.group.RedoKind.TheVariants as kinds
 use Rattle.aria_page.specs.declared.place.Part.{Part}
 use Rattle.aria_page.specs.declared.place.Part.TheVariants.{Rows}
 use Rattle.aria_host.specs.Folder.{Folder}
 use Rattle.aria_host.specs.Folder.{with_file, with_page, put_page}
-use Rattle.aria_record.specs.declared.record.Record.TheVariants.{Redo, CreateTable, DropTable}
-use Rattle.aria_record.specs.Logged.{Logged}
+use Rattle.aria_record.specs.declared.record.Record.TheVariants.{Redo, CreateTable, DropTable, UndoKeyInsert, ClrEnd, Commit}
+use Rattle.aria_record.specs.Logged.{Logged, lsn_at_place}
 use Rattle.aria_recovery.specs.Redo.{page_number}
+use Rattle.aria_recovery.specs.Pending.{pending_of, unchained}
 use Rattle.aria_recovery.specs.Tables.{file, tables_of, count_in}
 
 abbrev t : List ℕ
@@ -79,3 +81,42 @@ same_before = refl
 apart_after : counts (with_page (file t Rows) 0 (page_at 22) (left_over 20)) (create 5 ∷ []) ≡ 2
 unfolding page_number page_lsn lsn_of number_of put_page
 apart_after = refl
+
+-- ---- pending undo records
+
+abbrev begins : Lsn
+begins = record { file = 0; offset = 0 }
+
+-- an undo record at place n, behind the one at that log sequence number
+abbrev undo : ℕ → Lsn → Logged
+undo n prev = record { at = n; group = UndoKeyInsert t prev 0 0 [] ∷ [] }
+abbrev clear : ℕ → Lsn → Lsn → Logged
+clear n undone next = record { at = n; group = ClrEnd t undone next ∷ [] }
+abbrev commit : ℕ → Logged
+commit n = record { at = n; group = Commit ∷ [] }
+
+two_pending : pending_of (undo 5 begins ∷ undo 6 (lsn_at_place 5) ∷ []) ≡ 6 ∷ 5 ∷ []
+two_pending = refl
+
+one_left : pending_of (undo 5 begins ∷ undo 6 (lsn_at_place 5) ∷ clear 7 (lsn_at_place 6) (lsn_at_place 5) ∷ []) ≡ 5 ∷ []
+one_left = refl
+
+none_left : pending_of (undo 5 begins ∷ commit 6 ∷ []) ≡ []
+none_left = refl
+
+whole : unchained begins (undo 5 begins ∷ undo 6 (lsn_at_place 5) ∷ clear 7 (lsn_at_place 6) (lsn_at_place 5) ∷ clear 8 (lsn_at_place 5) begins ∷ undo 9 begins ∷ []) ≡ None
+whole = refl
+
+-- it names one that isn't pending; nothing is there to be undone; and the next one is another
+broken : unchained begins (undo 5 begins ∷ commit 6 ∷ undo 7 (lsn_at_place 5) ∷ []) ≡ Some 7
+broken = refl
+
+none_to_undo : unchained begins (clear 5 (lsn_at_place 4) begins ∷ []) ≡ Some 5
+none_to_undo = refl
+
+other_next : unchained begins (undo 5 begins ∷ clear 6 (lsn_at_place 5) (lsn_at_place 5) ∷ []) ≡ Some 6
+other_next = refl
+
+-- up to the checkpoint nothing is asked
+before_checkpoint : unchained (lsn_at_place 7) (undo 7 (lsn_at_place 5) ∷ []) ≡ None
+before_checkpoint = refl
