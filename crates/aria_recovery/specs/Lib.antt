@@ -3,4 +3,5 @@ pub mod Tables
 pub mod Images
 pub mod Frames
 pub mod Pending
+pub mod Noted
 pub mod Moves

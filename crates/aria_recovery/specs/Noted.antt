@@ -1,0 +1,44 @@
+-- What is kept of each table while groups are added.
+use Rattle.std.specs.Prelude.{◌≡◌, ℕ, Option, None, Some, List}
+use Rattle.std.specs.Option.{option_map_or}
+use Rattle.std.specs.BTreeMap as tree
+use Rattle.std.specs.BTreeMap.{BTreeMap}
+use Rattle.std.specs.Cmp.Lexicographic.{slice_cmp}
+use Rattle.std.specs.Ordering.{nat_cmp}
+use Rattle.aria_page.specs.declared.lsn.Lsn.{Lsn}
+use Rattle.aria_page.specs.declared.place.Part.{Part}
+use Rattle.aria_page.specs.declared.place.Part.TheVariants.{Keys, Rows}
+use Rattle.aria_recovery.specs.declared.edited.Edited.{Edited}
+use Rattle.aria_recovery.specs.declared.life.Life.{Life}
+use Rattle.aria_recovery.specs.declared.life.Told.{Told}
+use Rattle.aria_recovery.specs.declared.life.Told.TheVariants as told
+
+abbrev pub edited_of : Life → Part → Edited
+edited_of life Keys = life.keys
+edited_of life Rows = life.rows
+
+-- the last group that edits the page, and one more than the highest page that is named, of a table of which something is told
+abbrev pub edit_in : Life → Part → ℕ → Option Lsn
+edit_in life part n = tree.get nat_cmp (edited_of life part).last n
+
+abbrev pub reach_in : Life → Part → ℕ
+reach_in life part = (edited_of life part).reach
+
+abbrev pub Lives : Type 0
+Lives = BTreeMap (List ℕ) Life
+
+abbrev pub life_at : Lives → List ℕ → Option Life
+life_at lives name = tree.get (slice_cmp nat_cmp) lives name
+
+-- the same of any name
+abbrev pub edit_at : Option Life → Part → ℕ → Option Lsn
+edit_at life part n = option_map_or (λ l. edit_in l part n) life None
+
+abbrev pub reach_at : Option Life → Part → ℕ
+reach_at life part = option_map_or (λ l. reach_in l part) life 0
+
+abbrev pub told_at : Option Life → Told
+told_at life = option_map_or (λ l. l.told) life told.Nothing
+
+abbrev pub file_group_at : Option Life → Option Lsn
+file_group_at life = option_map_or (λ l. l.file_group) life None

@@ -1,0 +1,7 @@
+//! One pass over the groups of the log.
+
+use aria_page::Lsn;
+
+pub struct Analysis {
+    checkpoint: Lsn,
+}
