@@ -1,3 +1,4 @@
+pub mod Noting
 pub mod Comparing
 pub mod Pending
 pub mod Over

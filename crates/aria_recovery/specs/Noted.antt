@@ -1,5 +1,5 @@
 -- What is kept of each table while groups are added.
-use Rattle.std.specs.Prelude.{◌≡◌, ℕ, Option, None, Some, List}
+use Rattle.std.specs.Prelude.{◌≡◌, ℕ, max, Option, None, Some, List, if◌then◌else◌}
 use Rattle.std.specs.Option.{option_map_or}
 use Rattle.std.specs.BTreeMap as tree
 use Rattle.std.specs.BTreeMap.{BTreeMap}
@@ -8,6 +8,9 @@ use Rattle.std.specs.Ordering.{nat_cmp}
 use Rattle.aria_page.specs.declared.lsn.Lsn.{Lsn}
 use Rattle.aria_page.specs.declared.place.Part.{Part}
 use Rattle.aria_page.specs.declared.place.Part.TheVariants.{Keys, Rows}
+use Rattle.aria_page.specs.declared.edit.Edit.{Edit}
+use Rattle.aria_record.specs.declared.record.Record.{Record}
+use Rattle.aria_recovery.specs.Redo.{edits_in, edits_at, is_some_edit, reach_in as reach_by}
 use Rattle.aria_recovery.specs.declared.edited.Edited.{Edited}
 use Rattle.aria_recovery.specs.declared.life.Life.{Life}
 use Rattle.aria_recovery.specs.declared.life.Told.{Told}
@@ -42,3 +45,14 @@ told_at life = option_map_or (λ l. l.told) life told.Nothing
 
 abbrev pub file_group_at : Option Life → Option Lsn
 file_group_at life = option_map_or (λ l. l.file_group) life None
+
+-- what a page's last edit is after one group more
+abbrev pub edit_after : Lsn → List Edit → Option Lsn → Option Lsn
+edit_after at edits last = if is_some_edit edits then Some at else last
+
+-- A record of a group is noted, in each table's life.
+pub record Notes (at : Lsn) (r : Record) (old new : Lives) : Type 0 where
+  pub edits : (name : List ℕ) (part : Part) (n : ℕ) → edit_at (life_at new name) part n ≡ edit_after at (edits_at n (edits_in name part r)) (edit_at (life_at old name) part n)
+  pub reach : (name : List ℕ) (part : Part) → reach_at (life_at new name) part ≡ max (reach_at (life_at old name) part) (reach_by (edits_in name part r))
+  pub told : (name : List ℕ) → told_at (life_at new name) ≡ told_at (life_at old name)
+  pub file_group : (name : List ℕ) → file_group_at (life_at new name) ≡ file_group_at (life_at old name)

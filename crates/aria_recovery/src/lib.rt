@@ -13,6 +13,7 @@
 mod analysis;
 mod edited;
 mod life;
+mod lives;
 
 pub use analysis::Analysis;
 pub use life::Told;

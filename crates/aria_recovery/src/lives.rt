@@ -1,0 +1,49 @@
+//! What the log tells of all tables.
+
+ghost use Rattle.std.specs.Prelude.{◌≡◌, ◌+◌, ◌&&◌, OnOk, ℕ, List, None, Some, nat_eq, max, if◌then◌else◌};
+ghost use Rattle.std.specs.Ordering.{nat_cmp, is_eq};
+ghost use Rattle.std.specs.Cmp.Lexicographic.{slice_cmp};
+ghost use Rattle.aria_page.specs.declared.place.Part.{Part as FilePart};
+ghost use Rattle.aria_recovery.specs.Redo.{same_part};
+ghost use Rattle.aria_recovery.specs.Noted.{Notes, life_at, edit_at, edit_in, reach_at, reach_in, told_at, file_group_at};
+
+use crate::life::{Life, Told};
+use aria_page::{Lsn, Name, Part};
+use aria_record::Record;
+use std::alloc::{AllocError, Global};
+use std::collections::BTreeMap;
+
+// Takes what is told of a table out of the map.
+fn take(alloc: Global, lives: &mut BTreeMap<Name, Life>, name: Name) -> Life
+    ensures edits { (p : FilePart) (n : ℕ) → edit_in result p n ≡ edit_at (life_at lives.old name) p n }
+    ensures reach { (p : FilePart) → reach_in result p ≡ reach_at (life_at lives.old name) p }
+    ensures told { result.told ≡ told_at (life_at lives.old name) }
+    ensures file_group { result.file_group ≡ file_group_at (life_at lives.old name) }
+    ensures others { (q : List ℕ) → life_at lives.new q ≡ (if is_eq (slice_cmp nat_cmp name q) then None else life_at lives.old q) }
+{
+    match lives.remove(&name) {
+        Some(life) => life,
+        None => Life::new(alloc, None, Told::Nothing),
+    }
+}
+
+// A group has a record of a page of this table.
+pub(crate) fn note(
+    alloc: Global,
+    lives: &mut BTreeMap<Name, Life>,
+    at: Lsn,
+    name: Name,
+    part: Part,
+    page: u32,
+    has_edits: bool,
+) -> Result<(), AllocError>
+    ensures edits { OnOk result ((q : List ℕ) (p : FilePart) (n : ℕ) → edit_at (life_at lives.new q) p n ≡ (if is_eq (slice_cmp nat_cmp name q) && (same_part p part && (nat_eq n page && has_edits)) then Some at else edit_at (life_at lives.old q) p n)) }
+    ensures reach { OnOk result ((q : List ℕ) (p : FilePart) → reach_at (life_at lives.new q) p ≡ (if is_eq (slice_cmp nat_cmp name q) && same_part p part then max (reach_at (life_at lives.old q) p) (page + 1) else reach_at (life_at lives.old q) p)) }
+    ensures told { OnOk result ((q : List ℕ) → told_at (life_at lives.new q) ≡ told_at (life_at lives.old q)) }
+    ensures file_group { OnOk result ((q : List ℕ) → file_group_at (life_at lives.new q) ≡ file_group_at (life_at lives.old q)) }
+{
+    let mut life = take(alloc, lives, name);
+    life.note(at, part, page, has_edits)?;
+    lives.insert(name, life)?;
+    Ok(())
+}
