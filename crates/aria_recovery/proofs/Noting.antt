@@ -1,12 +1,18 @@
 -- One table's life is taken out, changed and put back.
-use Rattle.std.proofs.Common.{◌≡◌, ◌∙◌, ◌&&◌, ◌+◌, ℕ, Bool, true, false, cond, List, nat_eq, max, ap, sym, refl, subst, Option, None, Some}
+use Rattle.std.proofs.Common.{◌≡◌, ◌∙◌, ◌&&◌, ◌+◌, ℕ, Bool, true, false, cond, List, [], ◌∷◌, ◌++◌, nat_eq, max, ap, sym, refl, subst, arith, Option, None, Some, Result, OnOk, Ok, Err}
 use Rattle.std.specs.Cmp.Lexicographic.{slice_cmp, bytes_decides}
 use Rattle.std.specs.Ordering.{nat_cmp, is_eq}
 use Rattle.std.proofs.lemmas.Map.Text.{is_eq-slice_cmp}
 use Rattle.aria_page.specs.declared.lsn.Lsn.{Lsn}
 use Rattle.aria_page.specs.declared.place.Part.{Part}
-use Rattle.aria_recovery.specs.Redo.{same_part}
-use Rattle.aria_recovery.specs.Noted.{Lives, life_at, edit_in, edit_at, reach_in, reach_at, told_at, file_group_at}
+use Rattle.aria_page.specs.declared.edit.Edit.{Edit}
+use Rattle.aria_page.specs.declared.group.RedoKind.{RedoKind}
+use Rattle.aria_value.specs.Named.{same_name}
+use Rattle.aria_record.specs.declared.record.Record.{Record}
+use Rattle.aria_record.specs.declared.record.Record.TheVariants.{Redo}
+use Rattle.aria_recovery.specs.Redo.{same_part, edits_in, edits_at, edits_on, is_some_edit, reach_on, reach_in as reach_by}
+use Rattle.aria_recovery.specs.Noted.{Lives, life_at, edit_in, edit_at, reach_in, reach_at, told_at, file_group_at, edit_after, Notes, NotesAll}
+use Rattle.aria_recovery.proofs.Behind.{edits_push}
 use Rattle.aria_recovery.specs.declared.life.Life.{Life}
 use Rattle.aria_recovery.specs.declared.life.Told.{Told}
 
@@ -62,3 +68,73 @@ module _ (name : List ℕ) (life : Life) (old new : Lives) (is : Puts name life 
       by : (b : Bool) → is_eq (slice_cmp nat_cmp name q) ≡ b → file_group_at (cond b (Some life) (life_at old q)) ≡ file_group_at (life_at old q)
       by true same = was ∙ ap (λ (k : List ℕ). file_group_at (life_at old k)) (name_is name q same)
       by false other = refl
+
+-- ---- a record
+
+same_names : (a b : List ℕ) → is_eq (slice_cmp nat_cmp a b) ≡ same_name b a
+same_names a b = by (is_eq (slice_cmp nat_cmp a b)) refl (same_name b a) refl
+  where
+    by : (c : Bool) → is_eq (slice_cmp nat_cmp a b) ≡ c → (d : Bool) → same_name b a ≡ d → c ≡ d
+    by true one true other = refl
+    by false one false other = refl
+    by true one false other = sym ((bytes_decides b a).1 (sym (name_is a b one))) ∙ other
+    by false one true other = sym one ∙ is_eq-slice_cmp a b ∙ (bytes_decides a b).1 (sym ((bytes_decides b a).0 other))
+
+pub redo_edits : (at : Lsn) (q table : List ℕ) (p part : Part) (n page : ℕ) (kind : RedoKind) (es : List Edit) (last : Option Lsn)
+    → cond (is_eq (slice_cmp nat_cmp table q) && (same_part p part && (nat_eq n page && is_some_edit es))) (Some at) last ≡ edit_after at (edits_at n (edits_in q p (Redo kind table part page es))) last
+redo_edits at q table p part n page kind es last = ap (λ (b : Bool). cond (b && (same_part p part && (nat_eq n page && is_some_edit es))) (Some at) last) (same_names table q) ∙ by (same_name q table) (same_part p part)
+  where
+    one : (d : Bool) → cond (d && is_some_edit es) (Some at) last ≡ cond (is_some_edit (cond d es [])) (Some at) last
+    one true = refl
+    one false = refl
+    by : (b c : Bool) → cond (b && (c && (nat_eq n page && is_some_edit es))) (Some at) last ≡ cond (is_some_edit (edits_at n (cond (b && c) (Some (page, es)) None))) (Some at) last
+    by false c = refl
+    by true false = refl
+    by true true = one (nat_eq n page)
+
+pub redo_reach : (q table : List ℕ) (p part : Part) (page : ℕ) (kind : RedoKind) (es : List Edit) (reach : ℕ)
+    → cond (is_eq (slice_cmp nat_cmp table q) && same_part p part) (max reach (page + 1)) reach ≡ max reach (reach_by (edits_in q p (Redo kind table part page es)))
+redo_reach q table p part page kind es reach = ap (λ (b : Bool). cond (b && same_part p part) (max reach (page + 1)) reach) (same_names table q) ∙ by (same_name q table && same_part p part)
+  where
+    by : (b : Bool) → cond b (max reach (page + 1)) reach ≡ max reach (reach_by (cond b (Some (page, es)) None))
+    by true = refl
+    by false = omega arith
+
+-- a record more of a group
+edit_after_on : (at : Lsn) (es fs : List Edit) (last : Option Lsn) → edit_after at fs (edit_after at es last) ≡ edit_after at (es ++ fs) last
+edit_after_on at [] fs last = refl
+edit_after_on at (e ∷ es) [] last = refl
+edit_after_on at (e ∷ es) (f ∷ fs) last = refl
+
+reach_on_push : (name : List ℕ) (part : Part) (rs : List Record) (r : Record) → reach_on name part (rs ++ r ∷ []) ≡ max (reach_on name part rs) (reach_by (edits_in name part r))
+reach_on_push name part [] r = omega arith
+reach_on_push name part (q ∷ rs) r = ap (max (reach_by (edits_in name part q))) (reach_on_push name part rs r) ∙ omega arith
+
+pub notes_none : (at : Lsn) (lives : Lives) → NotesAll at [] lives lives
+notes_none at lives = record { edits = λ q p n. refl; reach = λ q p. omega arith; told = λ q. refl; file_group = λ q. refl }
+
+pub notes_more : (at : Lsn) (rs : List Record) (r : Record) (a b c : Lives) → NotesAll at rs a b → Notes at r b c → NotesAll at (rs ++ r ∷ []) a c
+notes_more at rs r a b c first second = record {
+  edits = λ q p n. second.edits q p n ∙ ap (edit_after at (edits_at n (edits_in q p r))) (first.edits q p n) ∙ edit_after_on at (edits_on q p n rs) (edits_at n (edits_in q p r)) (edit_at (life_at a q) p n)
+    ∙ ap (λ (es : List Edit). edit_after at es (edit_at (life_at a q) p n)) (sym (edits_push q p n rs r));
+  reach = λ q p. second.reach q p ∙ ap (λ (n : ℕ). max n (reach_by (edits_in q p r))) (first.reach q p) ∙ omega (arith, reach_on_push q p rs r);
+  told = λ q. second.told q ∙ first.told q;
+  file_group = λ q. second.file_group q ∙ first.file_group q;
+}
+
+pub all_four : {T E A B C D P : Type 0} → (r : Result T E) → OnOk r A → OnOk r B → OnOk r C → OnOk r D → (A → B → C → D → P) → OnOk r P
+all_four (Ok x) a b c d f = f a b c d
+all_four (Err e) a b c d f = tt
+
+-- a record of edits is noted
+pub notes_redo : (at : Lsn) (kind : RedoKind) (table : List ℕ) (part : Part) (page : ℕ) (es : List Edit) (some : Bool) (old new : Lives) → some ≡ is_some_edit es
+    → ((q : List ℕ) (p : Part) (n : ℕ) → edit_at (life_at new q) p n ≡ cond (is_eq (slice_cmp nat_cmp table q) && (same_part p part && (nat_eq n page && some))) (Some at) (edit_at (life_at old q) p n))
+    → ((q : List ℕ) (p : Part) → reach_at (life_at new q) p ≡ cond (is_eq (slice_cmp nat_cmp table q) && same_part p part) (max (reach_at (life_at old q) p) (page + 1)) (reach_at (life_at old q) p))
+    → ((q : List ℕ) → told_at (life_at new q) ≡ told_at (life_at old q)) → ((q : List ℕ) → file_group_at (life_at new q) ≡ file_group_at (life_at old q)) → Notes at (Redo kind table part page es) old new
+notes_redo at kind table part page es some old new is edits reach told file_group = record {
+  edits = λ q p n. edits q p n ∙ ap (λ (b : Bool). cond (is_eq (slice_cmp nat_cmp table q) && (same_part p part && (nat_eq n page && b))) (Some at) (edit_at (life_at old q) p n)) is
+    ∙ redo_edits at q table p part n page kind es (edit_at (life_at old q) p n);
+  reach = λ q p. reach q p ∙ redo_reach q table p part page kind es (reach_at (life_at old q) p);
+  told = told;
+  file_group = file_group;
+}

@@ -10,7 +10,7 @@ use Rattle.aria_page.specs.declared.place.Part.{Part}
 use Rattle.aria_page.specs.declared.place.Part.TheVariants.{Keys, Rows}
 use Rattle.aria_page.specs.declared.edit.Edit.{Edit}
 use Rattle.aria_record.specs.declared.record.Record.{Record}
-use Rattle.aria_recovery.specs.Redo.{edits_in, edits_at, is_some_edit, reach_in as reach_by}
+use Rattle.aria_recovery.specs.Redo.{edits_in, edits_at, edits_on, is_some_edit, reach_on, reach_in as reach_by}
 use Rattle.aria_recovery.specs.declared.edited.Edited.{Edited}
 use Rattle.aria_recovery.specs.declared.life.Life.{Life}
 use Rattle.aria_recovery.specs.declared.life.Told.{Told}
@@ -54,5 +54,12 @@ edit_after at edits last = if is_some_edit edits then Some at else last
 pub record Notes (at : Lsn) (r : Record) (old new : Lives) : Type 0 where
   pub edits : (name : List ℕ) (part : Part) (n : ℕ) → edit_at (life_at new name) part n ≡ edit_after at (edits_at n (edits_in name part r)) (edit_at (life_at old name) part n)
   pub reach : (name : List ℕ) (part : Part) → reach_at (life_at new name) part ≡ max (reach_at (life_at old name) part) (reach_by (edits_in name part r))
+  pub told : (name : List ℕ) → told_at (life_at new name) ≡ told_at (life_at old name)
+  pub file_group : (name : List ℕ) → file_group_at (life_at new name) ≡ file_group_at (life_at old name)
+
+-- All records of a group are noted.
+pub record NotesAll (at : Lsn) (rs : List Record) (old new : Lives) : Type 0 where
+  pub edits : (name : List ℕ) (part : Part) (n : ℕ) → edit_at (life_at new name) part n ≡ edit_after at (edits_on name part n rs) (edit_at (life_at old name) part n)
+  pub reach : (name : List ℕ) (part : Part) → reach_at (life_at new name) part ≡ max (reach_at (life_at old name) part) (reach_on name part rs)
   pub told : (name : List ℕ) → told_at (life_at new name) ≡ told_at (life_at old name)
   pub file_group : (name : List ℕ) → file_group_at (life_at new name) ≡ file_group_at (life_at old name)

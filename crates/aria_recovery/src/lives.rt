@@ -4,11 +4,11 @@ ghost use Rattle.std.specs.Prelude.{◌≡◌, ◌+◌, ◌&&◌, OnOk, ℕ, Lis
 ghost use Rattle.std.specs.Ordering.{nat_cmp, is_eq};
 ghost use Rattle.std.specs.Cmp.Lexicographic.{slice_cmp};
 ghost use Rattle.aria_page.specs.declared.place.Part.{Part as FilePart};
-ghost use Rattle.aria_recovery.specs.Redo.{same_part};
-ghost use Rattle.aria_recovery.specs.Noted.{Notes, life_at, edit_at, edit_in, reach_at, reach_in, told_at, file_group_at};
+ghost use Rattle.aria_recovery.specs.Redo.{same_part, is_some_edit};
+ghost use Rattle.aria_recovery.specs.Noted.{Notes, NotesAll, life_at, edit_at, edit_in, reach_at, reach_in, told_at, file_group_at};
 
 use crate::life::{Life, Told};
-use aria_page::{Lsn, Name, Part};
+use aria_page::{Edit, Lsn, Name, Part};
 use aria_record::Record;
 use std::alloc::{AllocError, Global};
 use std::collections::BTreeMap;
@@ -28,7 +28,7 @@ fn take(alloc: Global, lives: &mut BTreeMap<Name, Life>, name: Name) -> Life
 }
 
 // A group has a record of a page of this table.
-pub(crate) fn note(
+fn note(
     alloc: Global,
     lives: &mut BTreeMap<Name, Life>,
     at: Lsn,
@@ -45,5 +45,47 @@ pub(crate) fn note(
     let mut life = take(alloc, lives, name);
     life.note(at, part, page, has_edits)?;
     lives.insert(name, life)?;
+    Ok(())
+}
+
+fn has_edits(edits: &[Edit]) -> bool
+    ensures { result ≡ is_some_edit edits.now }
+{
+    !edits.is_empty()
+}
+
+// A group has this record.
+fn note_record(
+    alloc: Global,
+    lives: &mut BTreeMap<Name, Life>,
+    at: Lsn,
+    entry: &Record,
+) -> Result<(), AllocError>
+    ensures { OnOk result (Notes at entry.now lives.old lives.new) }
+{
+    match entry {
+        Record::Redo {
+            table,
+            part,
+            page,
+            edits,
+            ..
+        } => note(alloc, lives, at, *table, *part, *page, has_edits(edits.as_slice())),
+        _ => Ok(()),
+    }
+}
+
+/// A group has these records.
+pub(crate) fn note_all(
+    alloc: Global,
+    lives: &mut BTreeMap<Name, Life>,
+    at: Lsn,
+    records: &[Record],
+) -> Result<(), AllocError>
+    ensures { OnOk result (NotesAll at records.now lives.old lives.new) }
+{
+    for entry in records {
+        note_record(alloc, lives, at, entry)?;
+    }
     Ok(())
 }
