@@ -9,9 +9,10 @@ use Rattle.aria_page.specs.declared.edit.Edit.{Edit}
 use Rattle.aria_page.specs.declared.group.RedoKind.{RedoKind}
 use Rattle.aria_value.specs.Named.{same_name}
 use Rattle.aria_record.specs.declared.record.Record.{Record}
-use Rattle.aria_record.specs.declared.record.Record.TheVariants.{Redo}
+use Rattle.aria_record.specs.declared.record.Record.TheVariants.{Redo, RepairTable}
 use Rattle.aria_recovery.specs.Redo.{same_part, edits_in, edits_at, edits_on, is_some_edit, reach_on, reach_in as reach_by}
-use Rattle.aria_recovery.specs.Noted.{Lives, life_at, edit_in, edit_at, reach_in, reach_at, told_at, file_group_at, edit_after, Notes, NotesAll}
+use Rattle.aria_recovery.specs.Noted.{Lives, life_at, edit_in, edit_at, reach_in, reach_at, told_at, file_group_at, edit_after, Notes, NotesAll, told_of, unless_said, is_file_record, Settles}
+use Rattle.aria_recovery.specs.Tables.{Maker, says}
 use Rattle.aria_recovery.proofs.Behind.{edits_push}
 use Rattle.aria_recovery.specs.declared.life.Life.{Life}
 use Rattle.aria_recovery.specs.declared.life.Told.{Told}
@@ -68,6 +69,28 @@ module _ (name : List ℕ) (life : Life) (old new : Lives) (is : Puts name life 
       by : (b : Bool) → is_eq (slice_cmp nat_cmp name q) ≡ b → file_group_at (cond b (Some life) (life_at old q)) ≡ file_group_at (life_at old q)
       by true same = was ∙ ap (λ (k : List ℕ). file_group_at (life_at old k)) (name_is name q same)
       by false other = refl
+
+  pub put_edits_same : ((p : Part) (n : ℕ) → edit_in life p n ≡ edit_at (life_at old name) p n) → (q : List ℕ) (p : Part) (n : ℕ) → edit_at (life_at new q) p n ≡ edit_at (life_at old q) p n
+  put_edits_same was q p n = ap (λ (o : Option Life). edit_at o p n) (is q) ∙ by (is_eq (slice_cmp nat_cmp name q)) refl
+    where
+      by : (b : Bool) → is_eq (slice_cmp nat_cmp name q) ≡ b → edit_at (cond b (Some life) (life_at old q)) p n ≡ edit_at (life_at old q) p n
+      by true same = was p n ∙ ap (λ (k : List ℕ). edit_at (life_at old k) p n) (name_is name q same)
+      by false other = refl
+
+  pub put_reach_same : ((p : Part) → reach_in life p ≡ reach_at (life_at old name) p) → (q : List ℕ) (p : Part) → reach_at (life_at new q) p ≡ reach_at (life_at old q) p
+  put_reach_same was q p = ap (λ (o : Option Life). reach_at o p) (is q) ∙ by (is_eq (slice_cmp nat_cmp name q)) refl
+    where
+      by : (b : Bool) → is_eq (slice_cmp nat_cmp name q) ≡ b → reach_at (cond b (Some life) (life_at old q)) p ≡ reach_at (life_at old q) p
+      by true same = was p ∙ ap (λ (k : List ℕ). reach_at (life_at old k) p) (name_is name q same)
+      by false other = refl
+
+  -- what is read of the life that was put, or of another
+  pub put_read : {A : Type 0} (read : Option Life → A) (value : A) → read (Some life) ≡ value → (q : List ℕ) → read (life_at new q) ≡ cond (is_eq (slice_cmp nat_cmp name q)) value (read (life_at old q))
+  put_read read value here q = ap read (is q) ∙ by (is_eq (slice_cmp nat_cmp name q))
+    where
+      by : (b : Bool) → read (cond b (Some life) (life_at old q)) ≡ cond b value (read (life_at old q))
+      by true = here
+      by false = refl
 
 -- ---- a record
 
@@ -138,3 +161,48 @@ notes_redo at kind table part page es some old new is edits reach told file_grou
   told = told;
   file_group = file_group;
 }
+
+-- ---- what a group's first record says of files
+
+-- they are made or dropped
+pub settles_anew : (at : Lsn) (r : Record) (table : List ℕ) (last : Option Maker) (old new : Lives) → ((q : List ℕ) → says at q r ≡ cond (same_name q table) (Some last) None) → ((q : List ℕ) → is_file_record q r ≡ same_name q table)
+    → ((q : List ℕ) (p : Part) (n : ℕ) → edit_at (life_at new q) p n ≡ cond (is_eq (slice_cmp nat_cmp table q)) None (edit_at (life_at old q) p n))
+    → ((q : List ℕ) (p : Part) → reach_at (life_at new q) p ≡ cond (is_eq (slice_cmp nat_cmp table q)) 0 (reach_at (life_at old q) p))
+    → ((q : List ℕ) → told_at (life_at new q) ≡ cond (is_eq (slice_cmp nat_cmp table q)) (told_of (Some last)) (told_at (life_at old q)))
+    → ((q : List ℕ) → file_group_at (life_at new q) ≡ cond (is_eq (slice_cmp nat_cmp table q)) (Some at) (file_group_at (life_at old q))) → Settles at r old new
+settles_anew at r table last old new said is_file edits reach told file_group = record {
+  edits = λ q p n. edits q p n ∙ chosen q None (edit_at (life_at old q) p n) ∙ ap (λ (s : Option (Option Maker)). unless_said s (edit_at (life_at old q) p n) None) (sym (said q));
+  reach = λ q p. reach q p ∙ chosen q 0 (reach_at (life_at old q) p) ∙ ap (λ (s : Option (Option Maker)). unless_said s (reach_at (life_at old q) p) 0) (sym (said q));
+  told = λ q. told q ∙ told_by_name q (told_at (life_at old q)) ∙ ap (λ (s : Option (Option Maker)). unless_said s (told_at (life_at old q)) (told_of s)) (sym (said q));
+  file_group = λ q. file_group q ∙ ap (λ (b : Bool). cond b (Some at) (file_group_at (life_at old q))) (same_names table q ∙ sym (is_file q));
+}
+  where
+    chosen : {A : Type 0} (q : List ℕ) (anew was : A) → cond (is_eq (slice_cmp nat_cmp table q)) anew was ≡ unless_said (cond (same_name q table) (Some last) None) was anew
+    chosen q anew was = ap (λ (b : Bool). cond b anew was) (same_names table q) ∙ by (same_name q table)
+      where
+        by : (b : Bool) → cond b anew was ≡ unless_said (cond b (Some last) None) was anew
+        by true = refl
+        by false = refl
+    told_by_name : (q : List ℕ) (was : Told) → cond (is_eq (slice_cmp nat_cmp table q)) (told_of (Some last)) was ≡ unless_said (cond (same_name q table) (Some last) None) was (told_of (cond (same_name q table) (Some last) None))
+    told_by_name q was = ap (λ (b : Bool). cond b (told_of (Some last)) was) (same_names table q) ∙ by (same_name q table)
+      where
+        by : (b : Bool) → cond b (told_of (Some last)) was ≡ unless_said (cond b (Some last) None) was (told_of (cond b (Some last) None))
+        by true = refl
+        by false = refl
+
+-- nothing is said of making and dropping
+pub settles_still : (at : Lsn) (r : Record) (old new : Lives) → ((q : List ℕ) → says at q r ≡ None) → ((q : List ℕ) (p : Part) (n : ℕ) → edit_at (life_at new q) p n ≡ edit_at (life_at old q) p n)
+    → ((q : List ℕ) (p : Part) → reach_at (life_at new q) p ≡ reach_at (life_at old q) p) → ((q : List ℕ) → told_at (life_at new q) ≡ told_at (life_at old q))
+    → ((q : List ℕ) → file_group_at (life_at new q) ≡ cond (is_file_record q r) (Some at) (file_group_at (life_at old q))) → Settles at r old new
+settles_still at r old new quiet edits reach told file_group = record {
+  edits = λ q p n. edits q p n ∙ ap (λ (s : Option (Option Maker)). unless_said s (edit_at (life_at old q) p n) None) (sym (quiet q));
+  reach = λ q p. reach q p ∙ ap (λ (s : Option (Option Maker)). unless_said s (reach_at (life_at old q) p) 0) (sym (quiet q));
+  told = λ q. told q ∙ ap (λ (s : Option (Option Maker)). unless_said s (told_at (life_at old q)) (told_of s)) (sym (quiet q));
+  file_group = file_group;
+}
+
+pub settles_repair : (at : Lsn) (table : List ℕ) (old new : Lives) → ((q : List ℕ) (p : Part) (n : ℕ) → edit_at (life_at new q) p n ≡ edit_at (life_at old q) p n)
+    → ((q : List ℕ) (p : Part) → reach_at (life_at new q) p ≡ reach_at (life_at old q) p) → ((q : List ℕ) → told_at (life_at new q) ≡ told_at (life_at old q))
+    → ((q : List ℕ) → file_group_at (life_at new q) ≡ cond (is_eq (slice_cmp nat_cmp table q)) (Some at) (file_group_at (life_at old q))) → Settles at (RepairTable table) old new
+settles_repair at table old new edits reach told file_group = settles_still at (RepairTable table) old new (λ q. refl) edits reach told
+    (λ q. file_group q ∙ ap (λ (b : Bool). cond b (Some at) (file_group_at (life_at old q))) (same_names table q))

@@ -1,5 +1,5 @@
 -- What is kept of each table while groups are added.
-use Rattle.std.specs.Prelude.{◌≡◌, ℕ, max, Option, None, Some, List, if◌then◌else◌}
+use Rattle.std.specs.Prelude.{◌≡◌, ℕ, max, Bool, false, Option, None, Some, List, if◌then◌else◌}
 use Rattle.std.specs.Option.{option_map_or}
 use Rattle.std.specs.BTreeMap as tree
 use Rattle.std.specs.BTreeMap.{BTreeMap}
@@ -9,7 +9,10 @@ use Rattle.aria_page.specs.declared.lsn.Lsn.{Lsn}
 use Rattle.aria_page.specs.declared.place.Part.{Part}
 use Rattle.aria_page.specs.declared.place.Part.TheVariants.{Keys, Rows}
 use Rattle.aria_page.specs.declared.edit.Edit.{Edit}
+use Rattle.aria_value.specs.Named.{same_name}
 use Rattle.aria_record.specs.declared.record.Record.{Record}
+use Rattle.aria_record.specs.declared.record.Record.TheVariants.{CreateTable, DropTable, RepairTable}
+use Rattle.aria_recovery.specs.Tables.{Maker, says}
 use Rattle.aria_recovery.specs.Redo.{edits_in, edits_at, edits_on, is_some_edit, reach_on, reach_in as reach_by}
 use Rattle.aria_recovery.specs.declared.edited.Edited.{Edited}
 use Rattle.aria_recovery.specs.declared.life.Life.{Life}
@@ -63,3 +66,29 @@ pub record NotesAll (at : Lsn) (rs : List Record) (old new : Lives) : Type 0 whe
   pub reach : (name : List ℕ) (part : Part) → reach_at (life_at new name) part ≡ max (reach_at (life_at old name) part) (reach_on name part rs)
   pub told : (name : List ℕ) → told_at (life_at new name) ≡ told_at (life_at old name)
   pub file_group : (name : List ℕ) → file_group_at (life_at new name) ≡ file_group_at (life_at old name)
+
+-- ---- what a group says of files
+
+abbrev pub told_of : Option (Option Maker) → Told
+told_of None = told.Nothing
+told_of (Some None) = told.Dropped
+told_of (Some (Some maker)) = told.Made maker.at
+
+-- as it was where nothing is said, and anew where files are made or dropped
+abbrev pub unless_said : {A : Type 0} → Option (Option Maker) → A → A → A
+unless_said None old anew = old
+unless_said (Some last) old anew = anew
+
+-- a record that makes, drops or repairs the files of a name
+abbrev pub is_file_record : List ℕ → Record → Bool
+is_file_record name (CreateTable table plain definition format) = same_name name table
+is_file_record name (DropTable table) = same_name name table
+is_file_record name (RepairTable table) = same_name name table
+is_file_record name _ = false
+
+-- What a group's first record says of files is taken in: where they are made or dropped, no page is edited since.
+pub record Settles (at : Lsn) (r : Record) (old new : Lives) : Type 0 where
+  pub edits : (name : List ℕ) (part : Part) (n : ℕ) → edit_at (life_at new name) part n ≡ unless_said (says at name r) (edit_at (life_at old name) part n) None
+  pub reach : (name : List ℕ) (part : Part) → reach_at (life_at new name) part ≡ unless_said (says at name r) (reach_at (life_at old name) part) 0
+  pub told : (name : List ℕ) → told_at (life_at new name) ≡ unless_said (says at name r) (told_at (life_at old name)) (told_of (says at name r))
+  pub file_group : (name : List ℕ) → file_group_at (life_at new name) ≡ (if is_file_record name r then Some at else file_group_at (life_at old name))

@@ -5,7 +5,7 @@ ghost use Rattle.std.specs.Ordering.{nat_cmp, is_eq};
 ghost use Rattle.std.specs.Cmp.Lexicographic.{slice_cmp};
 ghost use Rattle.aria_page.specs.declared.place.Part.{Part as FilePart};
 ghost use Rattle.aria_recovery.specs.Redo.{same_part, is_some_edit};
-ghost use Rattle.aria_recovery.specs.Noted.{Notes, NotesAll, life_at, edit_at, edit_in, reach_at, reach_in, told_at, file_group_at};
+ghost use Rattle.aria_recovery.specs.Noted.{Notes, NotesAll, Settles, life_at, edit_at, edit_in, reach_at, reach_in, told_at, file_group_at};
 
 use crate::life::{Life, Told};
 use aria_page::{Edit, Lsn, Name, Part};
@@ -88,4 +88,56 @@ pub(crate) fn note_all(
         note_record(alloc, lives, at, entry)?;
     }
     Ok(())
+}
+
+// The files of a table are made or dropped: nothing that was told before counts.
+fn begin(
+    alloc: Global,
+    lives: &mut BTreeMap<Name, Life>,
+    at: Lsn,
+    name: Name,
+    told: Told,
+) -> Result<(), AllocError>
+    ensures edits { OnOk result ((q : List ℕ) (p : FilePart) (n : ℕ) → edit_at (life_at lives.new q) p n ≡ (if is_eq (slice_cmp nat_cmp name q) then None else edit_at (life_at lives.old q) p n)) }
+    ensures reach { OnOk result ((q : List ℕ) (p : FilePart) → reach_at (life_at lives.new q) p ≡ (if is_eq (slice_cmp nat_cmp name q) then 0 else reach_at (life_at lives.old q) p)) }
+    ensures told { OnOk result ((q : List ℕ) → told_at (life_at lives.new q) ≡ (if is_eq (slice_cmp nat_cmp name q) then told else told_at (life_at lives.old q))) }
+    ensures file_group { OnOk result ((q : List ℕ) → file_group_at (life_at lives.new q) ≡ (if is_eq (slice_cmp nat_cmp name q) then Some at else file_group_at (life_at lives.old q))) }
+{
+    let life = Life::new(alloc, Some(at), told);
+    lives.insert(name, life)?;
+    Ok(())
+}
+
+// The files of a table are repaired.
+fn repair(
+    alloc: Global,
+    lives: &mut BTreeMap<Name, Life>,
+    at: Lsn,
+    name: Name,
+) -> Result<(), AllocError>
+    ensures edits { OnOk result ((q : List ℕ) (p : FilePart) (n : ℕ) → edit_at (life_at lives.new q) p n ≡ edit_at (life_at lives.old q) p n) }
+    ensures reach { OnOk result ((q : List ℕ) (p : FilePart) → reach_at (life_at lives.new q) p ≡ reach_at (life_at lives.old q) p) }
+    ensures told { OnOk result ((q : List ℕ) → told_at (life_at lives.new q) ≡ told_at (life_at lives.old q)) }
+    ensures file_group { OnOk result ((q : List ℕ) → file_group_at (life_at lives.new q) ≡ (if is_eq (slice_cmp nat_cmp name q) then Some at else file_group_at (life_at lives.old q))) }
+{
+    let mut life = take(alloc, lives, name);
+    life.file_group = Some(at);
+    lives.insert(name, life)?;
+    Ok(())
+}
+
+fn settle_record(
+    alloc: Global,
+    lives: &mut BTreeMap<Name, Life>,
+    at: Lsn,
+    entry: &Record,
+) -> Result<(), AllocError>
+    ensures { OnOk result (Settles at entry.now lives.old lives.new) }
+{
+    match entry {
+        Record::CreateTable { table, .. } => begin(alloc, lives, at, *table, Told::Made(at)),
+        Record::DropTable { table } => begin(alloc, lives, at, *table, Told::Dropped),
+        Record::RepairTable { table } => repair(alloc, lives, at, *table),
+        _ => Ok(()),
+    }
 }
