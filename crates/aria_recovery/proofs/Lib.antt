@@ -1,3 +1,4 @@
+pub mod Chaining
 pub mod Noting
 pub mod Comparing
 pub mod Pending

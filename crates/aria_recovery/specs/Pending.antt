@@ -1,20 +1,14 @@
 -- Which undo records are pending, and their chain.
-use Rattle.std.specs.Prelude.{◌≡◌, ◌==◌, ◌&&◌, not, ℕ, nat_lt, Bool, true, false, Option, None, Some, List, [], ◌∷◌, drop, if◌then◌else◌}
+use Rattle.std.specs.Prelude.{◌≡◌, ◌==◌, ◌&&◌, not, ℕ, nat_lt, Bool, true, false, Option, None, Some, List, [], ◌∷◌, drop, map, reverse, if◌then◌else◌}
 use Rattle.aria_page.specs.Lsn.{lsn_number}
 use Rattle.aria_page.specs.declared.lsn.Lsn.{Lsn}
 use Rattle.aria_record.specs.declared.record.Record.{Record}
 use Rattle.aria_record.specs.declared.record.Record.TheVariants.{Redo, UndoRowInsert, UndoRowDelete, UndoKeyInsert, UndoKeyDelete, ClrEnd, Commit, Checkpoint, CreateTable, DropTable, RepairTable}
 use Rattle.aria_record.specs.Logged.{Logged, lsn_at_place}
-use Rattle.aria_recovery.specs.Redo.{number_at}
+use Rattle.aria_recovery.specs.declared.link.Link.{Link}
+use Rattle.aria_recovery.specs.declared.link.Link.TheVariants.{Undo, Undone, Ends, Loose}
 
--- what a group is in the chain: an undo record, with the one before it; the undoing of one, with the one to be undone next;
--- the end of a statement; or none of these
-pub data Link : Type 0 where
-  Undo : Lsn → Link
-  Undone : Lsn → Lsn → Link
-  Ends : Link
-  Loose : Link
-
+-- what a record is in the chain
 abbrev pub link_in : Record → Link
 link_in (Redo kind table part page edits) = Loose
 link_in (UndoRowInsert table prev places) = Undo prev
@@ -49,6 +43,10 @@ pending_from places (g ∷ gs) = pending_from (pended g.at (link_of g.group) pla
 abbrev pub pending_of : List Logged → List ℕ
 pending_of gs = pending_from [] gs
 
+-- their log sequence numbers, the oldest first
+abbrev pub oldest : List ℕ → List Lsn
+oldest places = reverse (map lsn_at_place places)
+
 -- ---- the chain
 
 abbrev pub same_lsn : Lsn → Lsn → Bool
@@ -67,9 +65,13 @@ is_linked (Undone undone next) (at ∷ places) = same_lsn undone (lsn_at_place a
 is_linked Ends places = true
 is_linked Loose places = true
 
+-- the second stands behind the first
+abbrev pub is_behind : Lsn → Lsn → Bool
+is_behind a b = nat_lt (lsn_number a) (lsn_number b)
+
 -- a group behind that log sequence number
 abbrev pub above : Lsn → Logged → Bool
-above at g = nat_lt (lsn_number at) (number_at g.at)
+above at g = is_behind at (lsn_at_place g.at)
 
 -- the chain fails at a group behind the checkpoint
 abbrev pub fails : Lsn → List ℕ → Logged → Bool

@@ -11,8 +11,10 @@
 #![tactic(auto)]
 
 mod analysis;
+mod chain;
 mod edited;
 mod life;
+mod link;
 mod lives;
 
 pub use analysis::Analysis;
