@@ -16,7 +16,7 @@ pub life_push : (name : List ℕ) (life : Life) (gs : List Logged) (g : Logged) 
 life_push name life [] g = refl
 life_push name life (h ∷ gs) g = life_push name (lives h life (told_by name h)) gs g
 
-reach_push : (name : List ℕ) (part : Part) (gs : List Logged) (g : Logged) → reach name part (gs ++ g ∷ []) ≡ max (reach name part gs) (reach_on name part g.group)
+pub reach_push : (name : List ℕ) (part : Part) (gs : List Logged) (g : Logged) → reach name part (gs ++ g ∷ []) ≡ max (reach name part gs) (reach_on name part g.group)
 reach_push name part [] g = omega arith
 reach_push name part (h ∷ gs) g = ap (max (reach_on name part h.group)) (reach_push name part gs g) ∙ omega arith
 

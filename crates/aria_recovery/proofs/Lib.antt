@@ -1,3 +1,4 @@
+pub mod Adding
 pub mod Chaining
 pub mod Noting
 pub mod Comparing

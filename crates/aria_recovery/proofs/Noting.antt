@@ -206,3 +206,7 @@ pub settles_repair : (at : Lsn) (table : List ℕ) (old new : Lives) → ((q : L
     → ((q : List ℕ) → file_group_at (life_at new q) ≡ cond (is_eq (slice_cmp nat_cmp table q)) (Some at) (file_group_at (life_at old q))) → Settles at (RepairTable table) old new
 settles_repair at table old new edits reach told file_group = settles_still at (RepairTable table) old new (λ q. refl) edits reach told
     (λ q. file_group q ∙ ap (λ (b : Bool). cond b (Some at) (file_group_at (life_at old q))) (same_names table q))
+
+pub when_ok : {T E A B : Type 0} → (r : Result T E) → OnOk r A → (A → B) → OnOk r B
+when_ok (Ok x) a f = f a
+when_ok (Err e) a f = tt

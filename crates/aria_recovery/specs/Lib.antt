@@ -4,4 +4,5 @@ pub mod Images
 pub mod Frames
 pub mod Pending
 pub mod Noted
+pub mod Analysed
 pub mod Moves

@@ -1,6 +1,6 @@
 -- What is kept of each table while groups are added.
-use Rattle.std.specs.Prelude.{◌≡◌, ℕ, max, Bool, false, Option, None, Some, List, if◌then◌else◌}
-use Rattle.std.specs.Option.{option_map_or}
+use Rattle.std.specs.Prelude.{◌≡◌, ℕ, max, Bool, false, Option, None, Some, List, [], ◌∷◌, if◌then◌else◌}
+use Rattle.std.specs.Option.{option_map, option_map_or}
 use Rattle.std.specs.BTreeMap as tree
 use Rattle.std.specs.BTreeMap.{BTreeMap}
 use Rattle.std.specs.Cmp.Lexicographic.{slice_cmp}
@@ -12,8 +12,9 @@ use Rattle.aria_page.specs.declared.edit.Edit.{Edit}
 use Rattle.aria_value.specs.Named.{same_name}
 use Rattle.aria_record.specs.declared.record.Record.{Record}
 use Rattle.aria_record.specs.declared.record.Record.TheVariants.{CreateTable, DropTable, RepairTable}
-use Rattle.aria_recovery.specs.Tables.{Maker, says}
-use Rattle.aria_recovery.specs.Redo.{edits_in, edits_at, edits_on, is_some_edit, reach_on, reach_in as reach_by}
+use Rattle.aria_record.specs.Logged.{Logged, lsn_at_place}
+use Rattle.aria_recovery.specs.Tables.{Maker, says, says_group, life_of}
+use Rattle.aria_recovery.specs.Redo.{edits_in, edits_at, edits_on, is_some_edit, touches, reach, reach_on, reach_in as reach_by}
 use Rattle.aria_recovery.specs.declared.edited.Edited.{Edited}
 use Rattle.aria_recovery.specs.declared.life.Life.{Life}
 use Rattle.aria_recovery.specs.declared.life.Told.{Told}
@@ -92,3 +93,40 @@ pub record Settles (at : Lsn) (r : Record) (old new : Lives) : Type 0 where
   pub reach : (name : List ℕ) (part : Part) → reach_at (life_at new name) part ≡ unless_said (says at name r) (reach_at (life_at old name) part) 0
   pub told : (name : List ℕ) → told_at (life_at new name) ≡ unless_said (says at name r) (told_at (life_at old name)) (told_of (says at name r))
   pub file_group : (name : List ℕ) → file_group_at (life_at new name) ≡ (if is_file_record name r then Some at else file_group_at (life_at old name))
+
+-- the same of a group, whose first record alone may say it
+abbrev pub is_file_group : List ℕ → List Record → Bool
+is_file_group name [] = false
+is_file_group name (r ∷ rs) = is_file_record name r
+
+pub record SettlesGroup (at : Lsn) (rs : List Record) (old new : Lives) : Type 0 where
+  pub edits : (name : List ℕ) (part : Part) (n : ℕ) → edit_at (life_at new name) part n ≡ unless_said (says_group name at rs) (edit_at (life_at old name) part n) None
+  pub reach : (name : List ℕ) (part : Part) → reach_at (life_at new name) part ≡ unless_said (says_group name at rs) (reach_at (life_at old name) part) 0
+  pub told : (name : List ℕ) → told_at (life_at new name) ≡ unless_said (says_group name at rs) (told_at (life_at old name)) (told_of (says_group name at rs))
+  pub file_group : (name : List ℕ) → file_group_at (life_at new name) ≡ (if is_file_group name rs then Some at else file_group_at (life_at old name))
+
+-- ---- what the groups tell
+
+-- the last of these groups that edits the page
+abbrev pub last_edit_in : List ℕ → Part → ℕ → Option ℕ → List Logged → Option ℕ
+last_edit_in name part n last [] = last
+last_edit_in name part n last (g ∷ gs) = last_edit_in name part n (if touches name part n g.group then Some g.at else last) gs
+
+-- the last group that edits the page, behind the one that made or dropped the table's files last
+abbrev pub last_edit : List ℕ → Part → ℕ → List Logged → Option ℕ
+last_edit name part n gs = last_edit_in name part n None (life_of name gs).since
+
+-- the last group that makes, drops or repairs the files of the name
+abbrev pub last_file_in : List ℕ → Option ℕ → List Logged → Option ℕ
+last_file_in name last [] = last
+last_file_in name last (g ∷ gs) = last_file_in name (if is_file_group name g.group then Some g.at else last) gs
+
+abbrev pub last_file : List ℕ → List Logged → Option ℕ
+last_file name gs = last_file_in name None gs
+
+-- The map tells of each table what these groups do.
+pub record HasLives (lives : Lives) (gs : List Logged) : Type 0 where
+  pub edits : (name : List ℕ) (part : Part) (n : ℕ) → edit_at (life_at lives name) part n ≡ option_map lsn_at_place (last_edit name part n gs)
+  pub reach : (name : List ℕ) (part : Part) → reach_at (life_at lives name) part ≡ reach name part (life_of name gs).since
+  pub told : (name : List ℕ) → told_at (life_at lives name) ≡ told_of (life_of name gs).last
+  pub file_group : (name : List ℕ) → file_group_at (life_at lives name) ≡ option_map lsn_at_place (last_file name gs)

@@ -8,7 +8,7 @@ ghost use Rattle.aria_recovery.specs.Pending.{oldest, newest, pended, same_lsn, 
 
 use crate::link::Link;
 use aria_page::Lsn;
-use std::alloc::AllocError;
+use std::alloc::{AllocError, Global};
 
 fn same_lsn(a: Lsn, b: Lsn) -> bool
     ensures { result ≡ same_lsn a b }
@@ -16,8 +16,8 @@ fn same_lsn(a: Lsn, b: Lsn) -> bool
     a.file == b.file && a.offset == b.offset
 }
 
-/// Whether the second stands behind the first.
-pub(crate) fn is_behind(checkpoint: Lsn, at: Lsn) -> bool
+// Whether the second stands behind the first.
+fn is_behind(checkpoint: Lsn, at: Lsn) -> bool
     ensures { result ≡ is_behind checkpoint at }
 {
     checkpoint.is_before(at)
@@ -44,8 +44,8 @@ fn is_undoing(pending: &[Lsn], undone: Lsn, next: Lsn) -> bool
     same_lsn(undone, newest(pending)) && same_lsn(next, newest(&pending[..count - 1]))
 }
 
-/// Whether a group goes on the chain.
-pub(crate) fn is_linked(pending: &[Lsn], link: Link) -> bool
+// Whether a group goes on the chain.
+fn is_linked(pending: &[Lsn], link: Link) -> bool
     ensures { (places : List ℕ) → pending.now ≡ oldest places → result ≡ is_linked link places }
 {
     match link {
@@ -56,8 +56,8 @@ pub(crate) fn is_linked(pending: &[Lsn], link: Link) -> bool
     }
 }
 
-/// What is pending behind a group.
-pub(crate) fn pend(pending: &mut Vec<Lsn>, at: Lsn, link: Link) -> Result<(), AllocError>
+// What is pending behind a group.
+fn pend(pending: &mut Vec<Lsn>, at: Lsn, link: Link) -> Result<(), AllocError>
     ensures { (place : ℕ) (places : List ℕ) → at ≡ lsn_at_place place → pending.old.items ≡ oldest places → OnOk result (pending.new.items ≡ oldest (pended place link places)) }
 {
     match link {
@@ -69,4 +69,51 @@ pub(crate) fn pend(pending: &mut Vec<Lsn>, at: Lsn, link: Link) -> Result<(), Al
         Link::Loose => {}
     }
     Ok(())
+}
+
+/// The pending undo records, and the first failure of their chain behind the checkpoint.
+#[derive(Drop)]
+pub(crate) struct Chain {
+    pub(crate) checkpoint: Lsn,
+    pub(crate) pending: Vec<Lsn>,
+    pub(crate) unchained: Option<Lsn>,
+}
+
+impl Chain {
+    ghost use Rattle.std.specs.Prelude.{[], ◌∷◌, ◌++◌, Some, if◌then◌else◌, not, ◌&&◌, None, is_some};
+    ghost use Rattle.aria_record.specs.Logged.{Logged};
+    ghost use Rattle.aria_recovery.specs.Pending.{link_of};
+    ghost use Rattle.aria_recovery.specs.Analysed.{HasChain};
+    ghost use Rattle.aria_record.specs.declared.record.Record.{Record as Entry};
+
+    pub(crate) fn new(alloc: Global, checkpoint: Lsn) -> Chain
+        ensures { HasChain checkpoint result [] }
+    {
+        Chain {
+            checkpoint,
+            pending: Vec::new(alloc),
+            unchained: None,
+        }
+    }
+
+    // The first failure, where the next group is at this log sequence number.
+    fn failure(&self, at: Lsn, link: Link) -> Option<Lsn>
+        ensures { (places : List ℕ) → self.now.pending.items ≡ oldest places → result ≡ (if not (is_some self.now.unchained) && (is_behind self.now.checkpoint at && not (is_linked link places)) then Some at else self.now.unchained) }
+    {
+        if self.unchained.is_some() || !is_behind(self.checkpoint, at) {
+            return self.unchained;
+        }
+        if is_linked(self.pending.as_slice(), link) {
+            return self.unchained;
+        }
+        Some(at)
+    }
+
+    /// A group more.
+    pub(crate) fn add(&mut self, at: Lsn, link: Link) -> Result<(), AllocError>
+        ensures { (checkpoint : Lsn) (gs : List Logged) (place : ℕ) (group : List Entry) → HasChain checkpoint self.old gs → at ≡ lsn_at_place place → link ≡ link_of group → OnOk result (HasChain checkpoint self.new (gs ++ record { at = place; group = group } ∷ [])) }
+    {
+        self.unchained = self.failure(at, link);
+        pend(&mut self.pending, at, link)
+    }
 }

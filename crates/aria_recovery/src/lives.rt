@@ -1,11 +1,12 @@
 //! What the log tells of all tables.
 
-ghost use Rattle.std.specs.Prelude.{◌≡◌, ◌+◌, ◌&&◌, OnOk, ℕ, List, None, Some, nat_eq, max, if◌then◌else◌};
+ghost use Rattle.std.specs.Prelude.{◌≡◌, ◌+◌, ◌&&◌, ◌∷◌, ◌++◌, [], OnOk, ℕ, List, None, Some, nat_eq, max, if◌then◌else◌};
 ghost use Rattle.std.specs.Ordering.{nat_cmp, is_eq};
 ghost use Rattle.std.specs.Cmp.Lexicographic.{slice_cmp};
 ghost use Rattle.aria_page.specs.declared.place.Part.{Part as FilePart};
+ghost use Rattle.aria_record.specs.Logged.{Logged, lsn_at_place};
 ghost use Rattle.aria_recovery.specs.Redo.{same_part, is_some_edit};
-ghost use Rattle.aria_recovery.specs.Noted.{Notes, NotesAll, Settles, life_at, edit_at, edit_in, reach_at, reach_in, told_at, file_group_at};
+ghost use Rattle.aria_recovery.specs.Noted.{HasLives, Notes, NotesAll, Settles, SettlesGroup, life_at, edit_at, edit_in, reach_at, reach_in, told_at, file_group_at};
 
 use crate::life::{Life, Told};
 use aria_page::{Edit, Lsn, Name, Part};
@@ -75,8 +76,8 @@ fn note_record(
     }
 }
 
-/// A group has these records.
-pub(crate) fn note_all(
+// A group has these records.
+fn note_all(
     alloc: Global,
     lives: &mut BTreeMap<Name, Life>,
     at: Lsn,
@@ -140,4 +141,32 @@ fn settle_record(
         Record::RepairTable { table } => repair(alloc, lives, at, *table),
         _ => Ok(()),
     }
+}
+
+// What the group's first record says of files is taken in.
+fn settle(
+    alloc: Global,
+    lives: &mut BTreeMap<Name, Life>,
+    at: Lsn,
+    records: &[Record],
+) -> Result<(), AllocError>
+    ensures { OnOk result (SettlesGroup at records.now lives.old lives.new) }
+{
+    match records {
+        [] => Ok(()),
+        [entry, ..] => settle_record(alloc, lives, at, entry),
+    }
+}
+
+/// A group more.
+pub(crate) fn add_group(
+    alloc: Global,
+    lives: &mut BTreeMap<Name, Life>,
+    at: Lsn,
+    records: &[Record],
+) -> Result<(), AllocError>
+    ensures { (gs : List Logged) (place : ℕ) → HasLives lives.old gs → at ≡ lsn_at_place place → OnOk result (HasLives lives.new (gs ++ record { at = place; group = records.now } ∷ [])) }
+{
+    note_all(alloc, lives, at, records)?;
+    settle(alloc, lives, at, records)
 }
