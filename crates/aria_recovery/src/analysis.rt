@@ -1,10 +1,10 @@
 //! One pass over the groups of the log.
 
 use crate::chain::Chain;
-use crate::life::Life;
+use crate::life::{Life, Told};
 use crate::link::link_of;
-use crate::lives::add_group;
-use aria_page::{Lsn, Name};
+use crate::lives::{add_group, find};
+use aria_page::{Lsn, Name, Part};
 use aria_record::Group;
 use std::alloc::{AllocError, Global};
 use std::collections::BTreeMap;
@@ -21,7 +21,12 @@ impl Analysis {
     ghost use Rattle.std.specs.Prelude.{◌≡◌, [], ◌∷◌, ◌++◌, ℕ, List, OnOk};
     ghost use Rattle.aria_page.specs.declared.lsn.Lsn.{Lsn as Number};
     ghost use Rattle.aria_record.specs.Logged.{Logged, lsn_at_place};
+    ghost use Rattle.std.specs.Option.{option_map};
     ghost use Rattle.aria_recovery.specs.Analysed.{Has};
+    ghost use Rattle.aria_recovery.specs.Noted.{told_of, last_edit, last_file};
+    ghost use Rattle.aria_recovery.specs.Pending.{oldest, pending_of, unchained};
+    ghost use Rattle.aria_recovery.specs.Redo.{reach};
+    ghost use Rattle.aria_recovery.specs.Tables.{life_of};
 
     /// No group was added. The chain of undo records is asked for behind the checkpoint.
     pub fn new(alloc: Global, checkpoint: Lsn) -> Analysis
@@ -41,5 +46,59 @@ impl Analysis {
         let records = group.as_slice();
         self.chain.add(at, link_of(records))?;
         add_group(self.alloc, &mut self.lives, at, records)
+    }
+
+    /// The last group that makes, drops or repairs the files of the name.
+    pub fn last_file_group(&self, name: &Name) -> Option<Lsn>
+        ensures { (checkpoint : Number) (gs : List Logged) → Has checkpoint self.now gs → result ≡ option_map lsn_at_place (last_file name.now gs) }
+    {
+        match find(&self.lives, name) {
+            Some(life) => life.file_group,
+            None => None,
+        }
+    }
+
+    /// What the last group tells that makes or drops the files of the name.
+    pub fn told(&self, name: &Name) -> Told
+        ensures { (checkpoint : Number) (gs : List Logged) → Has checkpoint self.now gs → result ≡ told_of (life_of name.now gs).last }
+    {
+        match find(&self.lives, name) {
+            Some(life) => life.told,
+            None => Told::Nothing,
+        }
+    }
+
+    /// The last group that edits the page, behind the one that made or dropped the table's files last.
+    pub fn last_edit(&self, name: &Name, part: Part, page: u32) -> Option<Lsn>
+        ensures { (checkpoint : Number) (gs : List Logged) → Has checkpoint self.now gs → result ≡ option_map lsn_at_place (last_edit name.now part page gs) }
+    {
+        match find(&self.lives, name) {
+            Some(life) => life.last_edit(part, page),
+            None => None,
+        }
+    }
+
+    /// One more than the highest page of the file that is edited behind the group that made or dropped it last.
+    pub fn reach(&self, name: &Name, part: Part) -> u64
+        ensures { (checkpoint : Number) (gs : List Logged) → Has checkpoint self.now gs → result ≡ reach name.now part (life_of name.now gs).since }
+    {
+        match find(&self.lives, name) {
+            Some(life) => life.reach(part),
+            None => 0,
+        }
+    }
+
+    /// The pending undo records, the oldest first.
+    pub fn pending(&self) -> &[Lsn]
+        ensures { (checkpoint : Number) (gs : List Logged) → Has checkpoint self.now gs → result.now ≡ oldest (pending_of gs) }
+    {
+        self.chain.pending.as_slice()
+    }
+
+    /// The first group behind the checkpoint at which the chain of undo records fails.
+    pub fn unchained(&self) -> Option<Lsn>
+        ensures { (checkpoint : Number) (gs : List Logged) → Has checkpoint self.now gs → result ≡ option_map lsn_at_place (unchained checkpoint gs) }
+    {
+        self.chain.unchained
     }
 }

@@ -62,4 +62,24 @@ impl Life {
             Part::Rows => self.rows.note(at, page, has_edits),
         }
     }
+
+    /// The last group that edits the page.
+    pub(crate) fn last_edit(&self, part: Part, page: u32) -> Option<Lsn>
+        ensures { result ≡ edit_in self.now part page }
+    {
+        match part {
+            Part::Keys => self.keys.last_of(page),
+            Part::Rows => self.rows.last_of(page),
+        }
+    }
+
+    /// One more than the highest page of the file that a group names.
+    pub(crate) fn reach(&self, part: Part) -> u64
+        ensures { result ≡ reach_in self.now part }
+    {
+        match part {
+            Part::Keys => self.keys.reach,
+            Part::Rows => self.rows.reach,
+        }
+    }
 }

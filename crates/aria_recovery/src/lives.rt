@@ -1,6 +1,7 @@
 //! What the log tells of all tables.
 
 ghost use Rattle.std.specs.Prelude.{◌≡◌, ◌+◌, ◌&&◌, ◌∷◌, ◌++◌, [], OnOk, ℕ, List, None, Some, nat_eq, max, if◌then◌else◌};
+ghost use Rattle.std.specs.Option.{option_copied};
 ghost use Rattle.std.specs.Ordering.{nat_cmp, is_eq};
 ghost use Rattle.std.specs.Cmp.Lexicographic.{slice_cmp};
 ghost use Rattle.aria_page.specs.declared.place.Part.{Part as FilePart};
@@ -169,4 +170,11 @@ pub(crate) fn add_group(
 {
     note_all(alloc, lives, at, records)?;
     settle(alloc, lives, at, records)
+}
+
+/// What is told of a name.
+pub(crate) fn find<'a>(lives: &'a BTreeMap<Name, Life>, name: &Name) -> Option<&'a Life>
+    ensures { option_copied result ≡ life_at lives.now name.now }
+{
+    lives.get(name)
 }
