@@ -1,6 +1,8 @@
 -- What is told of tables, with a group more.
-use Rattle.std.proofs.Common.{◌≡◌, ◌∙◌, ℕ, max, Bool, true, false, cond, List, [], ◌∷◌, ◌++◌, ap, sym, refl, subst, Option, None, Some}
+use Rattle.std.proofs.Common.{◌≡◌, ◌∙◌, ◌||◌, ℕ, max, Bool, true, false, cond, List, [], ◌∷◌, ◌++◌, ap, sym, refl, subst, Option, None, Some}
+use Rattle.std.specs.List.{list_any}
 use Rattle.std.specs.Option.{option_map}
+use Rattle.std.proofs.lemmas.List.Folds.{list_any-append}
 use Rattle.aria_page.specs.declared.edit.Edit.{Edit}
 use Rattle.aria_page.specs.declared.lsn.Lsn.{Lsn}
 use Rattle.aria_page.specs.declared.place.Part.{Part}
@@ -8,7 +10,7 @@ use Rattle.aria_record.specs.declared.record.Record.{Record}
 use Rattle.aria_record.specs.Logged.{Logged, lsn_at_place}
 use Rattle.aria_recovery.specs.Redo.{edits_on, is_some_edit, touches, reach, reach_on}
 use Rattle.aria_recovery.specs.Tables.{Maker, Life as TableLife, lives, life_of, told_by}
-use Rattle.aria_recovery.specs.Noted.{Lives, life_at, edit_at, reach_at, told_at, file_group_at, edit_after, unless_said, told_of, is_file_group, last_edit_in, last_edit, last_file_in, last_file, Settles, SettlesGroup, NotesAll, HasLives}
+use Rattle.aria_recovery.specs.Noted.{Lives, life_at, edit_at, reach_at, told_at, file_group_at, edit_after, unless_said, told_of, is_file_group, last_edit_in, last_edit, last_file_in, last_file, is_redo_of, is_of, Settles, SettlesGroup, NotesAll, HasLives}
 use Rattle.aria_recovery.specs.declared.life.Told.{Told}
 use Rattle.aria_recovery.proofs.Agreeing.{life_push, reach_push}
 
@@ -39,10 +41,21 @@ lives_push old mid new gs g has notes settles = record {
     ∙ told_said name (told_by name g) ∙ ap (λ (l : TableLife). told_of l.last) (sym (life_more name gs g));
   file_group = λ name. settles.file_group name ∙ ap (λ (o : Option Lsn). cond (is_file_group name g.group) (Some at) o) (notes.file_group name ∙ has.file_group name)
     ∙ sym (mapped (is_file_group name g.group) g.at (last_file name gs)) ∙ ap (option_map lsn_at_place) (sym (last_file_push name None gs g));
+  names = λ name. settles.names name ∙ ap (λ (b : Bool). is_file_group name g.group || b) (notes.names name ∙ ap (λ (b : Bool). list_any (is_redo_of name) g.group || b) (has.names name))
+    ∙ either (is_file_group name g.group) (list_any (is_redo_of name) g.group) (list_any (is_of name) gs) ∙ sym (list_any-append (is_of name) (gs) (g ∷ []));
 }
   where
     at : Lsn
     at = lsn_at_place g.at
+    either : (s r b : Bool) → (s || (r || b)) ≡ (b || ((s || r) || false))
+    either true true true = refl
+    either true true false = refl
+    either true false true = refl
+    either true false false = refl
+    either false true true = refl
+    either false true false = refl
+    either false false true = refl
+    either false false false = refl
     edit_said : (name : List ℕ) (part : Part) (n : ℕ) (s : Option (Option Maker)) → unless_said s (option_map lsn_at_place (cond (touches name part n g.group) (Some g.at) (last_edit name part n gs))) None
         ≡ option_map lsn_at_place (last_edit_in name part n None (lives g (life_of name gs) s).since)
     edit_said name part n None = ap (option_map lsn_at_place) (sym (last_edit_push name part n None (life_of name gs).since g))
@@ -56,7 +69,7 @@ lives_push old mid new gs g has notes settles = record {
 
 -- the first record alone may say something of files
 pub settles_first : (at : Lsn) (r : Record) (rs : List Record) (old new : Lives) → Settles at r old new → SettlesGroup at (r ∷ rs) old new
-settles_first at r rs old new is = record { edits = is.edits; reach = is.reach; told = is.told; file_group = is.file_group }
+settles_first at r rs old new is = record { edits = is.edits; reach = is.reach; told = is.told; file_group = is.file_group; names = is.names }
 
 pub settles_none : (at : Lsn) (lives : Lives) → SettlesGroup at [] lives lives
-settles_none at lives = record { edits = λ q p n. refl; reach = λ q p. refl; told = λ q. refl; file_group = λ q. refl }
+settles_none at lives = record { edits = λ q p n. refl; reach = λ q p. refl; told = λ q. refl; file_group = λ q. refl; names = λ q. refl }

@@ -1,5 +1,8 @@
 -- One table's life is taken out, changed and put back.
-use Rattle.std.proofs.Common.{◌≡◌, ◌∙◌, ◌&&◌, ◌+◌, ℕ, Bool, true, false, cond, List, [], ◌∷◌, ◌++◌, nat_eq, max, ap, sym, refl, subst, arith, Option, None, Some, Result, OnOk, Ok, Err}
+use Rattle.std.proofs.Common.{◌≡◌, ◌∙◌, ◌&&◌, ◌||◌, ◌+◌, ℕ, Bool, true, false, cond, List, [], ◌∷◌, ◌++◌, nat_eq, max, ap, sym, refl, subst, arith, Option, None, Some, Result, OnOk, Ok, Err}
+use Rattle.std.specs.List.{list_any}
+use Rattle.std.specs.Prelude.{is_some}
+use Rattle.std.proofs.lemmas.List.Folds.{list_any-append}
 use Rattle.std.specs.Cmp.Lexicographic.{slice_cmp, bytes_decides}
 use Rattle.std.specs.Ordering.{nat_cmp, is_eq}
 use Rattle.std.proofs.lemmas.Map.Text.{is_eq-slice_cmp}
@@ -11,7 +14,7 @@ use Rattle.aria_value.specs.Named.{same_name}
 use Rattle.aria_record.specs.declared.record.Record.{Record}
 use Rattle.aria_record.specs.declared.record.Record.TheVariants.{Redo, RepairTable}
 use Rattle.aria_recovery.specs.Redo.{same_part, edits_in, edits_at, edits_on, is_some_edit, reach_on, reach_in as reach_by}
-use Rattle.aria_recovery.specs.Noted.{Lives, life_at, edit_in, edit_at, reach_in, reach_at, told_at, file_group_at, edit_after, Notes, NotesAll, told_of, unless_said, is_file_record, Settles}
+use Rattle.aria_recovery.specs.Noted.{Lives, life_at, edit_in, edit_at, reach_in, reach_at, told_at, file_group_at, edit_after, Notes, NotesAll, told_of, unless_said, is_file_record, is_redo_of, is_known, Settles}
 use Rattle.aria_recovery.specs.Tables.{Maker, says}
 use Rattle.aria_recovery.proofs.Behind.{edits_push}
 use Rattle.aria_recovery.specs.declared.life.Life.{Life}
@@ -92,6 +95,13 @@ module _ (name : List ℕ) (life : Life) (old new : Lives) (is : Puts name life 
       by true = here
       by false = refl
 
+  pub put_names : (q : List ℕ) → is_known new q ≡ (is_eq (slice_cmp nat_cmp name q) || is_known old q)
+  put_names q = ap is_some (is q) ∙ by (is_eq (slice_cmp nat_cmp name q))
+    where
+      by : (b : Bool) → is_some (cond b (Some life) (life_at old q)) ≡ (b || is_known old q)
+      by true = refl
+      by false = refl
+
 -- ---- a record
 
 same_names : (a b : List ℕ) → is_eq (slice_cmp nat_cmp a b) ≡ same_name b a
@@ -134,7 +144,7 @@ reach_on_push name part [] r = omega arith
 reach_on_push name part (q ∷ rs) r = ap (max (reach_by (edits_in name part q))) (reach_on_push name part rs r) ∙ omega arith
 
 pub notes_none : (at : Lsn) (lives : Lives) → NotesAll at [] lives lives
-notes_none at lives = record { edits = λ q p n. refl; reach = λ q p. omega arith; told = λ q. refl; file_group = λ q. refl }
+notes_none at lives = record { edits = λ q p n. refl; reach = λ q p. omega arith; told = λ q. refl; file_group = λ q. refl; names = λ q. refl }
 
 pub notes_more : (at : Lsn) (rs : List Record) (r : Record) (a b c : Lives) → NotesAll at rs a b → Notes at r b c → NotesAll at (rs ++ r ∷ []) a c
 notes_more at rs r a b c first second = record {
@@ -143,23 +153,32 @@ notes_more at rs r a b c first second = record {
   reach = λ q p. second.reach q p ∙ ap (λ (n : ℕ). max n (reach_by (edits_in q p r))) (first.reach q p) ∙ omega (arith, reach_on_push q p rs r);
   told = λ q. second.told q ∙ first.told q;
   file_group = λ q. second.file_group q ∙ first.file_group q;
+  names = λ q. second.names q ∙ ap (λ (b : Bool). is_redo_of q r || b) (first.names q) ∙ either (is_redo_of q r) (list_any (is_redo_of q) rs) (is_known a q)
+    ∙ ap (λ (b : Bool). b || is_known a q) (sym (list_any-append (is_redo_of q) (rs) (r ∷ [])));
 }
+  where
+    either : (r q b : Bool) → (r || (q || b)) ≡ ((q || (r || false)) || b)
+    either true true b = refl
+    either true false b = refl
+    either false true b = refl
+    either false false b = refl
 
-pub all_four : {T E A B C D P : Type 0} → (r : Result T E) → OnOk r A → OnOk r B → OnOk r C → OnOk r D → (A → B → C → D → P) → OnOk r P
-all_four (Ok x) a b c d f = f a b c d
-all_four (Err e) a b c d f = tt
+pub all_five : {T E A B C D F P : Type 0} → (r : Result T E) → OnOk r A → OnOk r B → OnOk r C → OnOk r D → OnOk r F → (A → B → C → D → F → P) → OnOk r P
+all_five (Ok x) a b c d e f = f a b c d e
+all_five (Err x) a b c d e f = tt
 
 -- a record of edits is noted
 pub notes_redo : (at : Lsn) (kind : RedoKind) (table : List ℕ) (part : Part) (page : ℕ) (es : List Edit) (some : Bool) (old new : Lives) → some ≡ is_some_edit es
     → ((q : List ℕ) (p : Part) (n : ℕ) → edit_at (life_at new q) p n ≡ cond (is_eq (slice_cmp nat_cmp table q) && (same_part p part && (nat_eq n page && some))) (Some at) (edit_at (life_at old q) p n))
     → ((q : List ℕ) (p : Part) → reach_at (life_at new q) p ≡ cond (is_eq (slice_cmp nat_cmp table q) && same_part p part) (max (reach_at (life_at old q) p) (page + 1)) (reach_at (life_at old q) p))
-    → ((q : List ℕ) → told_at (life_at new q) ≡ told_at (life_at old q)) → ((q : List ℕ) → file_group_at (life_at new q) ≡ file_group_at (life_at old q)) → Notes at (Redo kind table part page es) old new
-notes_redo at kind table part page es some old new is edits reach told file_group = record {
+    → ((q : List ℕ) → told_at (life_at new q) ≡ told_at (life_at old q)) → ((q : List ℕ) → file_group_at (life_at new q) ≡ file_group_at (life_at old q)) → ((q : List ℕ) → is_known new q ≡ (is_eq (slice_cmp nat_cmp table q) || is_known old q)) → Notes at (Redo kind table part page es) old new
+notes_redo at kind table part page es some old new is edits reach told file_group names = record {
   edits = λ q p n. edits q p n ∙ ap (λ (b : Bool). cond (is_eq (slice_cmp nat_cmp table q) && (same_part p part && (nat_eq n page && b))) (Some at) (edit_at (life_at old q) p n)) is
     ∙ redo_edits at q table p part n page kind es (edit_at (life_at old q) p n);
   reach = λ q p. reach q p ∙ redo_reach q table p part page kind es (reach_at (life_at old q) p);
   told = told;
   file_group = file_group;
+  names = λ q. names q ∙ ap (λ (b : Bool). b || is_known old q) (same_names table q);
 }
 
 -- ---- what a group's first record says of files
@@ -169,12 +188,13 @@ pub settles_anew : (at : Lsn) (r : Record) (table : List ℕ) (last : Option Mak
     → ((q : List ℕ) (p : Part) (n : ℕ) → edit_at (life_at new q) p n ≡ cond (is_eq (slice_cmp nat_cmp table q)) None (edit_at (life_at old q) p n))
     → ((q : List ℕ) (p : Part) → reach_at (life_at new q) p ≡ cond (is_eq (slice_cmp nat_cmp table q)) 0 (reach_at (life_at old q) p))
     → ((q : List ℕ) → told_at (life_at new q) ≡ cond (is_eq (slice_cmp nat_cmp table q)) (told_of (Some last)) (told_at (life_at old q)))
-    → ((q : List ℕ) → file_group_at (life_at new q) ≡ cond (is_eq (slice_cmp nat_cmp table q)) (Some at) (file_group_at (life_at old q))) → Settles at r old new
-settles_anew at r table last old new said is_file edits reach told file_group = record {
+    → ((q : List ℕ) → file_group_at (life_at new q) ≡ cond (is_eq (slice_cmp nat_cmp table q)) (Some at) (file_group_at (life_at old q))) → ((q : List ℕ) → is_known new q ≡ (is_eq (slice_cmp nat_cmp table q) || is_known old q)) → Settles at r old new
+settles_anew at r table last old new said is_file edits reach told file_group names = record {
   edits = λ q p n. edits q p n ∙ chosen q None (edit_at (life_at old q) p n) ∙ ap (λ (s : Option (Option Maker)). unless_said s (edit_at (life_at old q) p n) None) (sym (said q));
   reach = λ q p. reach q p ∙ chosen q 0 (reach_at (life_at old q) p) ∙ ap (λ (s : Option (Option Maker)). unless_said s (reach_at (life_at old q) p) 0) (sym (said q));
   told = λ q. told q ∙ told_by_name q (told_at (life_at old q)) ∙ ap (λ (s : Option (Option Maker)). unless_said s (told_at (life_at old q)) (told_of s)) (sym (said q));
   file_group = λ q. file_group q ∙ ap (λ (b : Bool). cond b (Some at) (file_group_at (life_at old q))) (same_names table q ∙ sym (is_file q));
+  names = λ q. names q ∙ ap (λ (b : Bool). b || is_known old q) (same_names table q ∙ sym (is_file q));
 }
   where
     chosen : {A : Type 0} (q : List ℕ) (anew was : A) → cond (is_eq (slice_cmp nat_cmp table q)) anew was ≡ unless_said (cond (same_name q table) (Some last) None) was anew
@@ -193,19 +213,21 @@ settles_anew at r table last old new said is_file edits reach told file_group = 
 -- nothing is said of making and dropping
 pub settles_still : (at : Lsn) (r : Record) (old new : Lives) → ((q : List ℕ) → says at q r ≡ None) → ((q : List ℕ) (p : Part) (n : ℕ) → edit_at (life_at new q) p n ≡ edit_at (life_at old q) p n)
     → ((q : List ℕ) (p : Part) → reach_at (life_at new q) p ≡ reach_at (life_at old q) p) → ((q : List ℕ) → told_at (life_at new q) ≡ told_at (life_at old q))
-    → ((q : List ℕ) → file_group_at (life_at new q) ≡ cond (is_file_record q r) (Some at) (file_group_at (life_at old q))) → Settles at r old new
-settles_still at r old new quiet edits reach told file_group = record {
+    → ((q : List ℕ) → file_group_at (life_at new q) ≡ cond (is_file_record q r) (Some at) (file_group_at (life_at old q))) → ((q : List ℕ) → is_known new q ≡ (is_file_record q r || is_known old q)) → Settles at r old new
+settles_still at r old new quiet edits reach told file_group names = record {
   edits = λ q p n. edits q p n ∙ ap (λ (s : Option (Option Maker)). unless_said s (edit_at (life_at old q) p n) None) (sym (quiet q));
   reach = λ q p. reach q p ∙ ap (λ (s : Option (Option Maker)). unless_said s (reach_at (life_at old q) p) 0) (sym (quiet q));
   told = λ q. told q ∙ ap (λ (s : Option (Option Maker)). unless_said s (told_at (life_at old q)) (told_of s)) (sym (quiet q));
   file_group = file_group;
+  names = names;
 }
 
 pub settles_repair : (at : Lsn) (table : List ℕ) (old new : Lives) → ((q : List ℕ) (p : Part) (n : ℕ) → edit_at (life_at new q) p n ≡ edit_at (life_at old q) p n)
     → ((q : List ℕ) (p : Part) → reach_at (life_at new q) p ≡ reach_at (life_at old q) p) → ((q : List ℕ) → told_at (life_at new q) ≡ told_at (life_at old q))
-    → ((q : List ℕ) → file_group_at (life_at new q) ≡ cond (is_eq (slice_cmp nat_cmp table q)) (Some at) (file_group_at (life_at old q))) → Settles at (RepairTable table) old new
-settles_repair at table old new edits reach told file_group = settles_still at (RepairTable table) old new (λ q. refl) edits reach told
+    → ((q : List ℕ) → file_group_at (life_at new q) ≡ cond (is_eq (slice_cmp nat_cmp table q)) (Some at) (file_group_at (life_at old q))) → ((q : List ℕ) → is_known new q ≡ (is_eq (slice_cmp nat_cmp table q) || is_known old q)) → Settles at (RepairTable table) old new
+settles_repair at table old new edits reach told file_group names = settles_still at (RepairTable table) old new (λ q. refl) edits reach told
     (λ q. file_group q ∙ ap (λ (b : Bool). cond b (Some at) (file_group_at (life_at old q))) (same_names table q))
+    (λ q. names q ∙ ap (λ (b : Bool). b || is_known old q) (same_names table q))
 
 pub when_ok : {T E A B : Type 0} → (r : Result T E) → OnOk r A → (A → B) → OnOk r B
 when_ok (Ok x) a f = f a

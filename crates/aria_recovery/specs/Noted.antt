@@ -1,5 +1,6 @@
 -- What is kept of each table while groups are added.
-use Rattle.std.specs.Prelude.{◌≡◌, ℕ, max, Bool, false, Option, None, Some, List, [], ◌∷◌, if◌then◌else◌}
+use Rattle.std.specs.Prelude.{◌≡◌, ℕ, ◌||◌, max, Bool, false, Option, is_some, None, Some, List, [], ◌∷◌, if◌then◌else◌}
+use Rattle.std.specs.List.{list_any}
 use Rattle.std.specs.Option.{option_map, option_map_or}
 use Rattle.std.specs.BTreeMap as tree
 use Rattle.std.specs.BTreeMap.{BTreeMap}
@@ -11,7 +12,7 @@ use Rattle.aria_page.specs.declared.place.Part.TheVariants.{Keys, Rows}
 use Rattle.aria_page.specs.declared.edit.Edit.{Edit}
 use Rattle.aria_value.specs.Named.{same_name}
 use Rattle.aria_record.specs.declared.record.Record.{Record}
-use Rattle.aria_record.specs.declared.record.Record.TheVariants.{CreateTable, DropTable, RepairTable}
+use Rattle.aria_record.specs.declared.record.Record.TheVariants.{Redo, CreateTable, DropTable, RepairTable}
 use Rattle.aria_record.specs.Logged.{Logged, lsn_at_place}
 use Rattle.aria_recovery.specs.Tables.{Maker, says, says_group, life_of}
 use Rattle.aria_recovery.specs.Redo.{edits_in, edits_at, edits_on, is_some_edit, touches, reach, reach_on, reach_in as reach_by}
@@ -54,12 +55,22 @@ file_group_at life = option_map_or (λ l. l.file_group) life None
 abbrev pub edit_after : Lsn → List Edit → Option Lsn → Option Lsn
 edit_after at edits last = if is_some_edit edits then Some at else last
 
+-- a record of edits of a page of that table
+abbrev pub is_redo_of : List ℕ → Record → Bool
+is_redo_of name (Redo kind table part page edits) = same_name name table
+is_redo_of name _ = false
+
+-- something is told of the name
+abbrev pub is_known : Lives → List ℕ → Bool
+is_known lives name = is_some (life_at lives name)
+
 -- A record of a group is noted, in each table's life.
 pub record Notes (at : Lsn) (r : Record) (old new : Lives) : Type 0 where
   pub edits : (name : List ℕ) (part : Part) (n : ℕ) → edit_at (life_at new name) part n ≡ edit_after at (edits_at n (edits_in name part r)) (edit_at (life_at old name) part n)
   pub reach : (name : List ℕ) (part : Part) → reach_at (life_at new name) part ≡ max (reach_at (life_at old name) part) (reach_by (edits_in name part r))
   pub told : (name : List ℕ) → told_at (life_at new name) ≡ told_at (life_at old name)
   pub file_group : (name : List ℕ) → file_group_at (life_at new name) ≡ file_group_at (life_at old name)
+  pub names : (name : List ℕ) → is_known new name ≡ (is_redo_of name r || is_known old name)
 
 -- All records of a group are noted.
 pub record NotesAll (at : Lsn) (rs : List Record) (old new : Lives) : Type 0 where
@@ -67,6 +78,7 @@ pub record NotesAll (at : Lsn) (rs : List Record) (old new : Lives) : Type 0 whe
   pub reach : (name : List ℕ) (part : Part) → reach_at (life_at new name) part ≡ max (reach_at (life_at old name) part) (reach_on name part rs)
   pub told : (name : List ℕ) → told_at (life_at new name) ≡ told_at (life_at old name)
   pub file_group : (name : List ℕ) → file_group_at (life_at new name) ≡ file_group_at (life_at old name)
+  pub names : (name : List ℕ) → is_known new name ≡ (list_any (is_redo_of name) rs || is_known old name)
 
 -- ---- what a group says of files
 
@@ -93,6 +105,7 @@ pub record Settles (at : Lsn) (r : Record) (old new : Lives) : Type 0 where
   pub reach : (name : List ℕ) (part : Part) → reach_at (life_at new name) part ≡ unless_said (says at name r) (reach_at (life_at old name) part) 0
   pub told : (name : List ℕ) → told_at (life_at new name) ≡ unless_said (says at name r) (told_at (life_at old name)) (told_of (says at name r))
   pub file_group : (name : List ℕ) → file_group_at (life_at new name) ≡ (if is_file_record name r then Some at else file_group_at (life_at old name))
+  pub names : (name : List ℕ) → is_known new name ≡ (is_file_record name r || is_known old name)
 
 -- the same of a group, whose first record alone may say it
 abbrev pub is_file_group : List ℕ → List Record → Bool
@@ -104,6 +117,7 @@ pub record SettlesGroup (at : Lsn) (rs : List Record) (old new : Lives) : Type 0
   pub reach : (name : List ℕ) (part : Part) → reach_at (life_at new name) part ≡ unless_said (says_group name at rs) (reach_at (life_at old name) part) 0
   pub told : (name : List ℕ) → told_at (life_at new name) ≡ unless_said (says_group name at rs) (told_at (life_at old name)) (told_of (says_group name at rs))
   pub file_group : (name : List ℕ) → file_group_at (life_at new name) ≡ (if is_file_group name rs then Some at else file_group_at (life_at old name))
+  pub names : (name : List ℕ) → is_known new name ≡ (is_file_group name rs || is_known old name)
 
 -- ---- what the groups tell
 
@@ -124,9 +138,14 @@ last_file_in name last (g ∷ gs) = last_file_in name (if is_file_group name g.g
 abbrev pub last_file : List ℕ → List Logged → Option ℕ
 last_file name gs = last_file_in name None gs
 
+-- a group that edits pages of the table, or makes, drops or repairs its files
+abbrev pub is_of : List ℕ → Logged → Bool
+is_of name g = is_file_group name g.group || list_any (is_redo_of name) g.group
+
 -- The map tells of each table what these groups do.
 pub record HasLives (lives : Lives) (gs : List Logged) : Type 0 where
   pub edits : (name : List ℕ) (part : Part) (n : ℕ) → edit_at (life_at lives name) part n ≡ option_map lsn_at_place (last_edit name part n gs)
   pub reach : (name : List ℕ) (part : Part) → reach_at (life_at lives name) part ≡ reach name part (life_of name gs).since
   pub told : (name : List ℕ) → told_at (life_at lives name) ≡ told_of (life_of name gs).last
   pub file_group : (name : List ℕ) → file_group_at (life_at lives name) ≡ option_map lsn_at_place (last_file name gs)
+  pub names : (name : List ℕ) → is_known lives name ≡ list_any (is_of name) gs

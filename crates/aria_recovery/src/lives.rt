@@ -1,13 +1,13 @@
 //! What the log tells of all tables.
 
-ghost use Rattle.std.specs.Prelude.{◌≡◌, ◌+◌, ◌&&◌, ◌∷◌, ◌++◌, [], OnOk, ℕ, List, None, Some, nat_eq, max, if◌then◌else◌};
+ghost use Rattle.std.specs.Prelude.{◌≡◌, ◌+◌, ◌&&◌, ◌||◌, ◌∷◌, ◌++◌, [], OnOk, ℕ, List, None, Some, nat_eq, max, if◌then◌else◌};
 ghost use Rattle.std.specs.Option.{option_copied};
 ghost use Rattle.std.specs.Ordering.{nat_cmp, is_eq};
 ghost use Rattle.std.specs.Cmp.Lexicographic.{slice_cmp};
 ghost use Rattle.aria_page.specs.declared.place.Part.{Part as FilePart};
 ghost use Rattle.aria_record.specs.Logged.{Logged, lsn_at_place};
 ghost use Rattle.aria_recovery.specs.Redo.{same_part, is_some_edit};
-ghost use Rattle.aria_recovery.specs.Noted.{HasLives, Notes, NotesAll, Settles, SettlesGroup, life_at, edit_at, edit_in, reach_at, reach_in, told_at, file_group_at};
+ghost use Rattle.aria_recovery.specs.Noted.{HasLives, is_known, Notes, NotesAll, Settles, SettlesGroup, life_at, edit_at, edit_in, reach_at, reach_in, told_at, file_group_at};
 
 use crate::life::{Life, Told};
 use aria_page::{Edit, Lsn, Name, Part};
@@ -43,6 +43,7 @@ fn note(
     ensures reach { OnOk result ((q : List ℕ) (p : FilePart) → reach_at (life_at lives.new q) p ≡ (if is_eq (slice_cmp nat_cmp name q) && same_part p part then max (reach_at (life_at lives.old q) p) (page + 1) else reach_at (life_at lives.old q) p)) }
     ensures told { OnOk result ((q : List ℕ) → told_at (life_at lives.new q) ≡ told_at (life_at lives.old q)) }
     ensures file_group { OnOk result ((q : List ℕ) → file_group_at (life_at lives.new q) ≡ file_group_at (life_at lives.old q)) }
+    ensures names { OnOk result ((q : List ℕ) → is_known lives.new q ≡ (is_eq (slice_cmp nat_cmp name q) || is_known lives.old q)) }
 {
     let mut life = take(alloc, lives, name);
     life.note(at, part, page, has_edits)?;
@@ -104,6 +105,7 @@ fn begin(
     ensures reach { OnOk result ((q : List ℕ) (p : FilePart) → reach_at (life_at lives.new q) p ≡ (if is_eq (slice_cmp nat_cmp name q) then 0 else reach_at (life_at lives.old q) p)) }
     ensures told { OnOk result ((q : List ℕ) → told_at (life_at lives.new q) ≡ (if is_eq (slice_cmp nat_cmp name q) then told else told_at (life_at lives.old q))) }
     ensures file_group { OnOk result ((q : List ℕ) → file_group_at (life_at lives.new q) ≡ (if is_eq (slice_cmp nat_cmp name q) then Some at else file_group_at (life_at lives.old q))) }
+    ensures names { OnOk result ((q : List ℕ) → is_known lives.new q ≡ (is_eq (slice_cmp nat_cmp name q) || is_known lives.old q)) }
 {
     let life = Life::new(alloc, Some(at), told);
     lives.insert(name, life)?;
@@ -121,6 +123,7 @@ fn repair(
     ensures reach { OnOk result ((q : List ℕ) (p : FilePart) → reach_at (life_at lives.new q) p ≡ reach_at (life_at lives.old q) p) }
     ensures told { OnOk result ((q : List ℕ) → told_at (life_at lives.new q) ≡ told_at (life_at lives.old q)) }
     ensures file_group { OnOk result ((q : List ℕ) → file_group_at (life_at lives.new q) ≡ (if is_eq (slice_cmp nat_cmp name q) then Some at else file_group_at (life_at lives.old q))) }
+    ensures names { OnOk result ((q : List ℕ) → is_known lives.new q ≡ (is_eq (slice_cmp nat_cmp name q) || is_known lives.old q)) }
 {
     let mut life = take(alloc, lives, name);
     life.file_group = Some(at);

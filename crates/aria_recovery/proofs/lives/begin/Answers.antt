@@ -1,7 +1,7 @@
 use Rattle.std.proofs.Common.{◌≡◌, None, Some, Option}
 use Rattle.aria_recovery.specs.Noted.{edit_at, reach_at, told_at, file_group_at}
 use Rattle.aria_recovery.specs.declared.life.Life.{Life}
-use Rattle.aria_recovery.proofs.Noting.{put_read}
+use Rattle.aria_recovery.proofs.Noting.{put_read, put_names}
 use Rattle.aria_recovery.proofs.lives.begin.Goals as goal
 
 pub returns-clause-edits : goal.returns-clause-edits
@@ -15,3 +15,6 @@ returns-clause-told c = put_read c.args.name c.new-life.result c.args.lives.now 
 
 pub returns-clause-file_group : goal.returns-clause-file_group
 returns-clause-file_group c = put_read c.args.name c.new-life.result c.args.lives.now c.insert.new.self c.in_ok-insert.ensures.updates.0 file_group_at (Some c.args.at) c.new-life.ensures.file_group
+
+pub returns-clause-names : goal.returns-clause-names
+returns-clause-names c = put_names c.args.name c.new-life.result c.args.lives.now c.insert.new.self c.in_ok-insert.ensures.updates.0

@@ -4,7 +4,7 @@ use Rattle.aria_page.specs.declared.place.Part.{Part}
 use Rattle.aria_page.specs.declared.place.Part.TheVariants.{Keys, Rows}
 use Rattle.aria_recovery.specs.Noted.{edit_in, reach_in}
 use Rattle.aria_recovery.specs.declared.life.Life.{Life}
-use Rattle.aria_recovery.proofs.Noting.{puts, put_edits_same, put_reach_same, put_told}
+use Rattle.aria_recovery.proofs.Noting.{puts, put_edits_same, put_reach_same, put_told, put_names}
 use Rattle.aria_recovery.proofs.lives.repair.Goals as goal
 
 -- the life with another file group
@@ -33,3 +33,7 @@ pub returns-clause-told : goal.returns-clause-told
 returns-clause-told c = put_told c.args.name (regrouped c.take-life.result c.args.at) c.args.lives.now c.insert.new.self
     (puts c.args.name (regrouped c.take-life.result c.args.at) c.args.lives.now c.take-life.new.lives c.insert.new.self c.take-life.ensures.others c.in_ok-insert.ensures.updates.0)
     c.take-life.ensures.told
+
+pub returns-clause-names : goal.returns-clause-names
+returns-clause-names c = put_names c.args.name (regrouped c.take-life.result c.args.at) c.args.lives.now c.insert.new.self
+    (puts c.args.name (regrouped c.take-life.result c.args.at) c.args.lives.now c.take-life.new.lives c.insert.new.self c.take-life.ensures.others c.in_ok-insert.ensures.updates.0)
