@@ -1,10 +1,11 @@
 -- One table's life is taken out, changed and put back.
-use Rattle.std.proofs.Common.{◌≡◌, ◌∙◌, ◌&&◌, ◌||◌, ◌+◌, ℕ, Bool, true, false, cond, List, [], ◌∷◌, ◌++◌, nat_eq, max, ap, sym, refl, subst, arith, Option, None, Some, Result, OnOk, Ok, Err}
+use Rattle.std.proofs.Common.{◌≡◌, ◌∙◌, ◌&&◌, ◌||◌, ◌+◌, ℕ, Bool, true, false, cond, List, [], ◌∷◌, ◌++◌, nat_eq, max, ap, sym, refl, subst, arith, Option, None, Some, Result, OnOk, IfOk, Ok, Err}
 use Rattle.std.specs.List.{list_any}
 use Rattle.std.specs.Prelude.{is_some}
 use Rattle.std.proofs.lemmas.List.Folds.{list_any-append}
 use Rattle.std.specs.Cmp.Lexicographic.{slice_cmp, bytes_decides}
-use Rattle.std.specs.Ordering.{nat_cmp, is_eq}
+use Rattle.std.specs.Ordering.{nat_cmp, is_eq, eq_by_cmp}
+use Rattle.std.specs.Set.{is_member}
 use Rattle.std.proofs.lemmas.Map.Text.{is_eq-slice_cmp}
 use Rattle.aria_page.specs.declared.lsn.Lsn.{Lsn}
 use Rattle.aria_page.specs.declared.place.Part.{Part}
@@ -232,3 +233,9 @@ settles_repair at table old new edits reach told file_group names = settles_stil
 pub when_ok : {T E A B : Type 0} → (r : Result T E) → OnOk r A → (A → B) → OnOk r B
 when_ok (Ok x) a f = f a
 when_ok (Err e) a f = tt
+
+-- the names of the map are those that are wanted
+pub names_all : {N E : Type 0} → (items : N → List (List ℕ)) → (r : Result N E) → (ks : List (List ℕ)) (known wanted : List ℕ → Bool) → IfOk r (λ n. items n ≡ ks)
+    → IfOk r (λ _. (q : List ℕ) → known q ≡ is_member (eq_by_cmp (slice_cmp nat_cmp)) ks q) → ((q : List ℕ) → known q ≡ wanted q) → IfOk r (λ n. (q : List ℕ) → is_member (eq_by_cmp (slice_cmp nat_cmp)) (items n) q ≡ wanted q)
+names_all items (Ok n) ks known wanted same member is = λ q. ap (λ (l : List (List ℕ)). is_member (eq_by_cmp (slice_cmp nat_cmp)) l q) same ∙ sym (member q) ∙ is q
+names_all items (Err e) ks known wanted same member is = tt

@@ -3,7 +3,7 @@
 use crate::chain::Chain;
 use crate::life::{Life, Told};
 use crate::link::link_of;
-use crate::lives::{add_group, find};
+use crate::lives::{add_group, find, names_of};
 use aria_page::{Lsn, Name, Part};
 use aria_record::Group;
 use std::alloc::{AllocError, Global};
@@ -18,12 +18,18 @@ pub struct Analysis {
 }
 
 impl Analysis {
-    ghost use Rattle.std.specs.Prelude.{◌≡◌, [], ◌∷◌, ◌++◌, ℕ, List, OnOk};
+    ghost use Rattle.std.specs.Prelude.{◌≡◌, [], ◌∷◌, ◌++◌, ℕ, List, OnOk, IfOk};
     ghost use Rattle.aria_page.specs.declared.lsn.Lsn.{Lsn as Number};
     ghost use Rattle.aria_record.specs.Logged.{Logged, lsn_at_place};
-    ghost use Rattle.std.specs.Option.{option_map};
+    ghost use Rattle.std.specs.Option.{option_map, option_and_then, option_copied};
+    ghost use Rattle.std.specs.BTreeMap.{get};
+    ghost use Rattle.std.specs.Set.{is_member};
+    ghost use Rattle.std.specs.Ordering.{nat_cmp, eq_by_cmp};
+    ghost use Rattle.std.specs.Cmp.Lexicographic.{slice_cmp};
+    ghost use Rattle.std.specs.List.{list_any};
+    ghost use Rattle.std.specs.List.Sorted.{IsStrictlySortedBy};
     ghost use Rattle.aria_recovery.specs.Analysed.{Has};
-    ghost use Rattle.aria_recovery.specs.Noted.{told_of, last_edit, last_file};
+    ghost use Rattle.aria_recovery.specs.Noted.{told_of, last_edit, last_file, is_of};
     ghost use Rattle.aria_recovery.specs.Pending.{oldest, pending_of, unchained};
     ghost use Rattle.aria_recovery.specs.Redo.{reach};
     ghost use Rattle.aria_recovery.specs.Tables.{life_of};
@@ -100,5 +106,24 @@ impl Analysis {
         ensures { (checkpoint : Number) (gs : List Logged) → Has checkpoint self.now gs → result ≡ option_map lsn_at_place (unchained checkpoint gs) }
     {
         self.chain.unchained
+    }
+
+    /// The pages of the file that are edited behind the group that made or dropped it last, each with the last group
+    /// that edits it; or none of them.
+    pub fn pages(&self, name: &Name, part: Part) -> Option<&BTreeMap<u32, Lsn>>
+        ensures { (checkpoint : Number) (gs : List Logged) → Has checkpoint self.now gs → (n : ℕ) → option_and_then (λ pages. get nat_cmp pages n) (option_copied result) ≡ option_map lsn_at_place (last_edit name.now part n gs) }
+    {
+        match find(&self.lives, name) {
+            Some(life) => Some(life.pages(part)),
+            None => None,
+        }
+    }
+
+    /// The names of the tables of which groups edit pages, or make, drop or repair the files, in order.
+    pub fn names(&self) -> Result<Vec<Name>, AllocError>
+        ensures ordered { IfOk result (λ names. IsStrictlySortedBy (slice_cmp nat_cmp) names.items) }
+        ensures all { (checkpoint : Number) (gs : List Logged) → Has checkpoint self.now gs → IfOk result (λ names. (q : List ℕ) → is_member (eq_by_cmp (slice_cmp nat_cmp)) names.items q ≡ list_any (is_of q) gs) }
+    {
+        names_of(self.alloc, &self.lives)
     }
 }

@@ -1,12 +1,15 @@
 //! What the log tells of a table.
 
 ghost use Rattle.std.specs.Prelude.{◌≡◌, ◌+◌, ◌&&◌, ℕ, OnOk, None, Some, nat_eq, max, if◌then◌else◌};
+ghost use Rattle.std.specs.BTreeMap.{get};
+ghost use Rattle.std.specs.Ordering.{nat_cmp};
 ghost use Rattle.aria_recovery.specs.Redo.{same_part};
 ghost use Rattle.aria_recovery.specs.Noted.{edit_in, reach_in};
 
 use crate::edited::Edited;
 use aria_page::{Lsn, Part};
 use std::alloc::{AllocError, Global};
+use std::collections::BTreeMap;
 
 /// What the last group tells that makes or drops the files of a name.
 #[derive(Clone, Copy, Debug, PartialEq, Eq)]
@@ -80,6 +83,16 @@ impl Life {
         match part {
             Part::Keys => self.keys.reach,
             Part::Rows => self.rows.reach,
+        }
+    }
+
+    /// The pages of the file, each with the last group that edits it.
+    pub(crate) fn pages(&self, part: Part) -> &BTreeMap<u32, Lsn>
+        ensures { (n : ℕ) → get nat_cmp result.now n ≡ edit_in self.now part n }
+    {
+        match part {
+            Part::Keys => &self.keys.last,
+            Part::Rows => &self.rows.last,
         }
     }
 }

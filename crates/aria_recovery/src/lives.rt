@@ -1,8 +1,10 @@
 //! What the log tells of all tables.
 
-ghost use Rattle.std.specs.Prelude.{◌≡◌, ◌+◌, ◌&&◌, ◌||◌, ◌∷◌, ◌++◌, [], OnOk, ℕ, List, None, Some, nat_eq, max, if◌then◌else◌};
+ghost use Rattle.std.specs.Prelude.{◌≡◌, ◌+◌, ◌&&◌, ◌||◌, ◌∷◌, ◌++◌, [], OnOk, IfOk, ℕ, List, None, Some, nat_eq, max, if◌then◌else◌};
 ghost use Rattle.std.specs.Option.{option_copied};
-ghost use Rattle.std.specs.Ordering.{nat_cmp, is_eq};
+ghost use Rattle.std.specs.BTreeMap.{keys, IsOrdered};
+ghost use Rattle.std.specs.Set.{is_member};
+ghost use Rattle.std.specs.Ordering.{nat_cmp, is_eq, eq_by_cmp};
 ghost use Rattle.std.specs.Cmp.Lexicographic.{slice_cmp};
 ghost use Rattle.aria_page.specs.declared.place.Part.{Part as FilePart};
 ghost use Rattle.aria_record.specs.Logged.{Logged, lsn_at_place};
@@ -180,4 +182,17 @@ pub(crate) fn find<'a>(lives: &'a BTreeMap<Name, Life>, name: &Name) -> Option<&
     ensures { option_copied result ≡ life_at lives.now name.now }
 {
     lives.get(name)
+}
+
+/// The names of which something is told, in order.
+pub(crate) fn names_of(alloc: Global, lives: &BTreeMap<Name, Life>) -> Result<Vec<Name>, AllocError>
+    ensures names { IfOk result (λ names. names.items ≡ keys lives.now) }
+    ensures ordered { IfOk result (λ _. IsOrdered (slice_cmp nat_cmp) lives.now) }
+    ensures known { IfOk result (λ _. (q : List ℕ) → is_known lives.now q ≡ is_member (eq_by_cmp (slice_cmp nat_cmp)) (keys lives.now) q) }
+{
+    let mut names = Vec::with_capacity(alloc, lives.len())?;
+    for name in lives.keys() {
+        names.push(*name)?;
+    }
+    Ok(names)
 }
