@@ -49,8 +49,10 @@ said_at name at (CreateTable table plain definition format ∷ rs) m is = by (sa
     at_of None = at
     at_of (Some None) = at
     at_of (Some (Some k)) = k.at
+
     made : Maker
     made = record { at = at; plain = plain; definition = definition; format = format }
+
     by : (b : Bool) → cond b (Some (Some made)) None ≡ Some (Some m) → m.at ≡ at
     by true same = sym (ap at_of same)
     by false same = absurd (cc)
@@ -60,8 +62,10 @@ said_at name at (DropTable table ∷ rs) m is = by (same_name name table) is
     is_made None = false
     is_made (Some None) = false
     is_made (Some (Some k)) = true
+
     dropped : Option (Option Maker)
     dropped = Some None
+
     by : (b : Bool) → cond b dropped None ≡ Some (Some m) → m.at ≡ at
     by true same = absurd (let h : false ≡ true = ap is_made same in (cc))
     by false same = absurd (cc)
@@ -90,18 +94,18 @@ since_from name (g ∷ gs) before low life rises below counts m is =
       at_is = was.at_is;
       below = omega (arith, was.below, rises.0);
       since_is = ap (λ (l : List Logged). l ++ g ∷ []) was.since_is
-        ∙ ap (λ (b : Bool). filter (above k.at) before ++ cond b (g ∷ []) [])
-            (sym (ap (λ (l : Lsn). nat_lt (lsn_number l) (number_at g.at)) was.at_is ∙ lt_true (number_at was.place) (number_at g.at) (number_rises was.place g.at (omega (arith, was.below, rises.0)))))
-        ∙ sym (filter_push k.at before g);
+          ∙ ap (λ (b : Bool). filter (above k.at) before ++ cond b (g ∷ []) [])
+          (sym (ap (λ (l : Lsn). nat_lt (lsn_number l) (number_at g.at)) was.at_is ∙ lt_true (number_at was.place) (number_at g.at) (number_rises was.place g.at (omega (arith, was.below, rises.0)))))
+          ∙ sym (filter_push k.at before g);
     }
     by (Some None) quiet k last = absurd (cc)
     by (Some (Some j)) quiet k last =
         let at : k.at ≡ lsn_at_place g.at = sym (ap at_of last) ∙ said_at name (lsn_at_place g.at) g.group j quiet in record {
-      place = g.at;
-      at_is = at;
-      below = omega arith;
-      since_is = sym (ap (λ (l : Lsn). filter (above l) (before ++ g ∷ [])) at ∙ none_above g.at (before ++ g ∷ []) (all_below low g.at before g below rises.0 (omega arith)));
-    }
+          place = g.at;
+          at_is = at;
+          below = omega arith;
+          since_is = sym (ap (λ (l : Lsn). filter (above l) (before ++ g ∷ [])) at ∙ none_above g.at (before ++ g ∷ []) (all_below low g.at before g below rises.0 (omega arith)));
+        }
       where
         at_of : Option (Option Maker) → Lsn
         at_of None = k.at

@@ -40,6 +40,7 @@ table_push name life g c = by (is_there life.last (c (file name Keys)))
   where
     at : (part : Part) → Content
     at part = begun part life.last (c (file name part))
+
     by : (b : Bool) → cond b (Some (record { file = λ part. file_of name part (life.since ++ g ∷ []) (at part) })) None ≡ option_map (grown name g) (cond b (Some (record { file = λ part. file_of name part life.since (at part) })) None)
     by true = λ i. Some (record { file = λ part. file_push name part life.since g (at part) i })
     by false = refl
@@ -57,6 +58,7 @@ next_same name gs g a b older same =
   where
     life : Life
     life = life_of name gs
+
     by : (s : Option (Option Maker)) → told_by name g ≡ s → table_of name (lives g life s) a ≡ table_of name (lives g life s) b
     by None is = table_push name life g a ∙ ap (option_map (grown name g)) same ∙ sym (table_push name life g b)
     by (Some None) is = refl
@@ -64,6 +66,7 @@ next_same name gs g a b older same =
       where
         as_made : (part : Part) (c : Folder) → is_from maker.at (c (file name part)) ≡ false → begun part (Some (Some maker)) (c (file name part)) ≡ Some (made_page maker part ∷ [])
         as_made part c older = ap (λ (t : Bool). cond t (c (file name part)) (Some (made_page maker part ∷ []))) older
+
         made : (part : Part) → begun part (Some (Some maker)) (a (file name part)) ≡ begun part (Some (Some maker)) (b (file name part))
         made part = as_made part a ((older maker is).0 part) ∙ sym (as_made part b ((older maker is).1 part))
 

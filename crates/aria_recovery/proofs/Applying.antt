@@ -1,5 +1,5 @@
 -- Redo applies a group that stands behind the pages that it edits.
-use Rattle.std.proofs.Common.{◌≡◌, ◌∙◌, ℕ, zero, suc, ◌+◌, ◌-◌, ◌<◌, ◌≤◌, Bool, true, false, cond, List, [], ◌∷◌, ◌++◌, length, take, nat_lt, ap, sym, refl, subst, arith, length-append, append_assoc, Option, None, Some, inl, inr}
+use Rattle.std.proofs.Common.{◌≡◌, ◌∙◌, ℕ, ◌+◌, ◌-◌, ◌<◌, ◌≤◌, Bool, true, cond, List, [], ◌∷◌, ◌++◌, length, take, ap, sym, refl, subst, arith, length-append, Option, None, Some, inl, inr}
 use Rattle.std.specs.Option.{option_map, option_map_or}
 use Rattle.std.proofs.lemmas.Bool.{cases_lt}
 use Rattle.std.proofs.lemmas.List.{take-append-le, take_all, length_push}
@@ -9,8 +9,8 @@ use Rattle.aria_page.specs.declared.edit.Edit.{Edit}
 use Rattle.aria_page.specs.declared.place.Part.{Part}
 use Rattle.aria_host.specs.Folder.{Folder}
 use Rattle.aria_record.specs.Logged.{Logged}
-use Rattle.aria_recovery.specs.Redo.{Seen, Content, number_at, edits_on, is_some_edit, stepped, body_of, page_seen}
-use Rattle.aria_recovery.specs.Tables.{Maker, Life, Table, File, lives, life_of, told_by, is_from, begun, file, file_of, table_of, tables_of, made_page, page_in, body_in}
+use Rattle.aria_recovery.specs.Redo.{Seen, number_at, edits_on, is_some_edit, stepped, body_of}
+use Rattle.aria_recovery.specs.Tables.{Maker, Life, Table, File, lives, life_of, told_by, file, file_of, table_of, tables_of, made_page, page_in, body_in}
 use Rattle.aria_recovery.specs.Moves.{Versions, Bodies, bodies_of, body_after, after_group, applied, Applies}
 use Rattle.aria_recovery.proofs.Agreeing.{AreOlder, life_push, table_push, grown, grown_file}
 use Rattle.aria_recovery.proofs.Comparing.{lt_true}
@@ -39,6 +39,7 @@ page_grown name g (Some t) part n = by (t.file part)
     none : (es : List Edit) → None ≡ stepped (number_at g.at) es None
     none [] = refl
     none (e ∷ es) = refl
+
     by : (f : Option File) → option_map_or (λ (h : File). h.page n) (option_map (grown_file name part g) f) None ≡ stepped (number_at g.at) (edits_on name part n g.group) (option_map_or (λ (h : File). h.page n) f None)
     by None = none (edits_on name part n g.group)
     by (Some f) = refl
@@ -80,13 +81,13 @@ applies_one d gs g meets m few name part n = elim (cases_lt 0 m) [
   | inr none ↦
       let zero_is : m ≡ 0 = omega (arith, none) in
       subst (λ (k : ℕ). bodies_of (all (length gs + k)) name part n ≡ applied (take k (g ∷ [])) (bodies_of (all (length gs))) name part n) (sym zero_is)
-        (ap (λ (k : ℕ). bodies_of (all k) name part n) (let e : length gs + 0 ≡ length gs = omega arith in e))
+      (ap (λ (k : ℕ). bodies_of (all k) name part n) (let e : length gs + 0 ≡ length gs = omega arith in e))
   | inl some ↦
       let one_is : m ≡ 1 = omega (arith, some, few) in
       subst (λ (k : ℕ). bodies_of (all (length gs + k)) name part n ≡ applied (take k (g ∷ [])) (bodies_of (all (length gs))) name part n) (sym one_is)
-        (ap (λ (l : List Logged). body_in (tables_of d l name) part n) (take_all (length gs + 1) (gs ++ g ∷ []) (omega (arith, length_push gs g)))
-          ∙ after_push d gs g name part n (meets name)
-          ∙ ap (λ (l : List Logged). body_after (told_by name g) (edits_on name part n g.group) part n (body_in (tables_of d l name) part n)) (sym (take-append-le (length gs) gs (g ∷ []) (omega arith) ∙ take_all (length gs) gs (omega arith))))
+      (ap (λ (l : List Logged). body_in (tables_of d l name) part n) (take_all (length gs + 1) (gs ++ g ∷ []) (omega (arith, length_push gs g)))
+      ∙ after_push d gs g name part n (meets name)
+      ∙ ap (λ (l : List Logged). body_after (told_by name g) (edits_on name part n g.group) part n (body_in (tables_of d l name) part n)) (sym (take-append-le (length gs) gs (g ∷ []) (omega arith) ∙ take_all (length gs) gs (omega arith))))
 ]
   where
     all : Versions

@@ -1,7 +1,7 @@
 -- Redo goes once through the groups: what so many in front make of a page, and one more.
-use Rattle.std.proofs.Common.{◌≡◌, ◌∙◌, ℕ, zero, suc, ◌+◌, ◌-◌, ◌<◌, ◌≤◌, Bool, true, false, cond, List, [], ◌∷◌, ◌++◌, length, take, drop, nat_lt, ap, sym, refl, subst, arith, length-append, append_assoc, Option, None, Some, inl, inr}
+use Rattle.std.proofs.Common.{◌≡◌, ◌∙◌, ℕ, ◌+◌, ◌-◌, ◌≤◌, Bool, true, false, cond, List, [], ◌∷◌, ◌++◌, length, take, drop, nat_lt, ap, sym, refl, arith, length-append, append_assoc, Option, None, Some, inl, inr}
 use Rattle.std.proofs.lemmas.Bool.{cases_lt}
-use Rattle.std.proofs.lemmas.List.{append-nil, take_all, length-drop, drop-append-le, length_push}
+use Rattle.std.proofs.lemmas.List.{append-nil, take_all, length-drop, drop-append-le}
 use Rattle.std.proofs.Math.Seq.{drop-append_seam, take-append-add}
 use Rattle.aria_page.specs.declared.edit.Edit.{Edit}
 use Rattle.aria_page.specs.declared.place.Part.{Part}
@@ -62,8 +62,8 @@ front_next name before after g gs is = elim (cases_lt (length before) (base_of n
       let size : length rest ≡ length before - b = length-drop b before in
       ap (take (length before + 1 - b)) since_is ∙ ap (λ (n : ℕ). take n (rest ++ g ∷ after)) (let e : length before + 1 - b ≡ length rest + 1 = omega (arith, size, late) in e) ∙ take-append-add rest (g ∷ after) 1
       ∙ sym (ap (λ (t : Bool). front_of name gs (length before) ++ cond t [] (g ∷ [])) (lt_false (length before) b late)
-          ∙ ap (λ (l : List Logged). take (length before - b) l ++ g ∷ []) since_is ∙ ap (λ (n : ℕ). take n (rest ++ g ∷ after) ++ g ∷ []) (let e : length before - b ≡ length rest + 0 = omega (arith, size) in e)
-          ∙ ap (λ (l : List Logged). l ++ g ∷ []) (take-append-add rest (g ∷ after) 0 ∙ append-nil rest))
+      ∙ ap (λ (l : List Logged). take (length before - b) l ++ g ∷ []) since_is ∙ ap (λ (n : ℕ). take n (rest ++ g ∷ after) ++ g ∷ []) (let e : length before - b ≡ length rest + 0 = omega (arith, size) in e)
+      ∙ ap (λ (l : List Logged). l ++ g ∷ []) (take-append-add rest (g ∷ after) 0 ∙ append-nil rest))
 ]
 
 -- ---- a page
@@ -90,6 +90,7 @@ redone_next before after g gs is (Some s) x = ap (λ (l : List Logged). redo s.n
   where
     front : List Logged
     front = front_of s.name gs (length before)
+
     by : (b : Bool) → redo s.name s.part s.page (front ++ cond b [] (g ∷ [])) x ≡ stepped (number_at g.at) (cond b [] (edits_on s.name s.part s.page g.group)) (redo s.name s.part s.page front x)
     by true = ap (λ (l : List Logged). redo s.name s.part s.page l x) (append-nil front)
     by false = redo_append s.name s.part s.page front (g ∷ []) x
@@ -123,6 +124,7 @@ edits_begin gs i (Some s) = by (nat_lt i (base_of s.name gs))
   where
     none : List Edit
     none = []
+
     by : (b : Bool) → cond b none none ≡ none
     by true = refl
     by false = refl

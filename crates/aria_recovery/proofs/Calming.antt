@@ -50,6 +50,7 @@ module _ (opened : List ℕ → Bool) where
     where
       after : AreImages opened t gs forced
       after = images_after opened gs forced s t step images neutral follows now
+
       folder : Agrees gs forced s.folder t.folder
       folder = let here = follows t.folder now in agrees_on gs forced s.folder here.0 t.folder (images here.0 here.1).agrees (neutral here.0 t.folder here.1 here.2).agrees
 
@@ -66,8 +67,10 @@ module _ (opened : List ℕ → Bool) where
   -- a call that only looks, and may bring something to the disk
   pub calm_look : (s t : State) (gs : List Logged) (forced : ℕ) → OnlyNow s → t.may_leave t.folder → AreImages opened s gs forced → Narrows s t → Calm opened s t gs forced
   calm_look s t gs forced only now images looks = calm_call s t gs forced (λ d c. c ≡ d) only now images
-      (λ d c left same. record { agrees = subst (λ (f : Folder). Agrees gs forced d f) (sym same) (agrees_self gs forced d);
-        current = λ other on part. subst (λ (f : Folder). IsCurrent (life_of other gs).last (f (file other part))) (sym same) ((images d left).current other on part) })
+      (λ d c left same. record {
+        agrees = subst (λ (f : Folder). Agrees gs forced d f) (sym same) (agrees_self gs forced d);
+        current = λ other on part. subst (λ (f : Folder). IsCurrent (life_of other gs).last (f (file other part))) (sym same) ((images d left).current other on part);
+      })
       (λ c leaves. (c, looks.no_more c leaves, refl)) looks.tells
 
   -- a sync

@@ -1,5 +1,5 @@
 -- Pending undo records as a list of log sequence numbers, the oldest first.
-use Rattle.std.proofs.Common.{◌≡◌, ◌∙◌, ℕ, zero, suc, ◌-◌, ◌<◌, ◌≤◌, ◌&&◌, not, Bool, true, false, cond, List, [], ◌∷◌, ◌++◌, length, ap, sym, refl, arith, Option, None, Some}
+use Rattle.std.proofs.Common.{◌≡◌, ◌∙◌, ℕ, suc, ◌-◌, ◌&&◌, not, Bool, true, false, cond, List, [], ◌∷◌, ◌++◌, length, ap, sym, refl, arith, Option, None, Some}
 use Rattle.std.specs.Prelude.{is_some}
 use Rattle.std.specs.Option.{option_map}
 use Rattle.std.specs.List.{slice_get}
@@ -34,10 +34,10 @@ chain_push checkpoint old new gs place group at link has at_is link_is same fail
   checkpoint_is = same ∙ has.checkpoint_is;
   pending = pends ∙ ap (λ (l : Link). oldest (pended place l (pending_of gs))) link_is ∙ ap oldest (sym (pending_push gs (record { at = place; group = group })));
   unchained = failure ∙ ap (λ (l : Lsn). by_parts old.unchained old.checkpoint l link) at_is ∙ ap (λ (l : Link). by_parts old.unchained old.checkpoint (lsn_at_place place) l) link_is
-    ∙ ap (λ (u : Option Lsn). by_parts u old.checkpoint (lsn_at_place place) (link_of group)) has.unchained
-    ∙ ap (λ (c : Lsn). by_parts (option_map lsn_at_place (unchained checkpoint gs)) c (lsn_at_place place) (link_of group)) has.checkpoint_is
-    ∙ failed (unchained checkpoint gs) (fails checkpoint (pending_of gs) (record { at = place; group = group })) place
-    ∙ ap (option_map lsn_at_place) (sym (unchained_push checkpoint gs (record { at = place; group = group })));
+      ∙ ap (λ (u : Option Lsn). by_parts u old.checkpoint (lsn_at_place place) (link_of group)) has.unchained
+      ∙ ap (λ (c : Lsn). by_parts (option_map lsn_at_place (unchained checkpoint gs)) c (lsn_at_place place) (link_of group)) has.checkpoint_is
+      ∙ failed (unchained checkpoint gs) (fails checkpoint (pending_of gs) (record { at = place; group = group })) place
+      ∙ ap (option_map lsn_at_place) (sym (unchained_push checkpoint gs (record { at = place; group = group })));
 }
   where
     by_parts : Option Lsn → Lsn → Lsn → Link → Option Lsn

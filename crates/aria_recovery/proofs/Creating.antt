@@ -84,44 +84,61 @@ module _ (opened : List ℕ → Bool) (gs : List Logged) (name : List ℕ) (clos
       where
         c1 : Calm opened s0 s1 gs (length gs)
         c1 = calm_make Keys s0 s1 (Some []) true refl h0 h1 images (older Keys) keys.images keys.tells
+
         rows_older : (c : Folder) → s1.may_leave c → is_from maker.at (c (file name Rows)) ≡ false
         rows_older c leaves = let to = keys.images c leaves in ap (is_from maker.at) (make_others (file name Keys) (file name Rows) (Some []) true to.0 c refl to.2) ∙ older Rows to.0 to.1
+
         c2 : Calm opened s1 s2 gs (length gs)
         c2 = calm_make Rows s1 s2 (Some []) true refl h1 h2 c1.images rows_older rows.images rows.tells
+
         keys2 : InAll s2 name Keys (Some [])
         keys2 = made_aside name Rows Keys (Some []) (Some []) true s1 s2 refl rows.images (made_in_all name Keys (Some []) s0 s1 keys.images)
+
         rows2 : InAll s2 name Rows (Some [])
         rows2 = made_in_all name Rows (Some []) s1 s2 rows.images
+
         c3 : Calm opened s2 s3 gs (length gs)
         c3 = calm_first Keys s2 s3 true h2 h3 c2.images keys2 keys_page
+
         rows3 : InAll s3 name Rows (Some [])
         rows3 = written_aside name Keys Rows (made_page maker Keys) (Some []) s2 s3 refl keys_page.images rows2
+
         c4 : Calm opened s3 s4 gs (length gs)
         c4 = calm_first Rows s3 s4 true h3 h4 c3.images rows3 rows_page
+
         keys4 : s4.folder (file name Keys) ≡ Some (made_page maker Keys ∷ [])
         keys4 = ap (λ (f : Folder). f (file name Keys)) (rows_page.whole (cc)) ∙ with_file-other (file name Rows) (file name Keys) (option_map (put_page 0 (made_page maker Rows)) (s3.folder (file name Rows))) s3.folder refl
             ∙ first_reads Keys s2 s3 (keys2 s2.folder h2.now) keys_page
+
         rows4 : s4.folder (file name Rows) ≡ Some (made_page maker Rows ∷ [])
         rows4 = first_reads Rows s3 s4 (rows3 s3.folder h3.now) rows_page
+
         c5 : Calm opened s4 s5 gs (length gs)
         c5 = calm_sync opened s4 s5 gs (length gs) name Keys true h4.only h5.now c4.images keys_sync
+
         c6 : Calm opened s5 s6 gs (length gs)
         c6 = calm_sync opened s5 s6 gs (length gs) name Rows true h5.only h6.now c5.images rows_sync
+
         whole : Calm opened s0 s6 gs (length gs)
         whole = calm_on opened s0 s1 s6 gs (length gs) c1 (calm_on opened s1 s2 s6 gs (length gs) c2 (calm_on opened s2 s3 s6 gs (length gs) c3
             (calm_on opened s3 s4 s6 gs (length gs) c4 (calm_on opened s4 s5 s6 gs (length gs) c5 c6))))
+
         first_in : (p : Part) (content : Content) → content ≡ Some (made_page maker p ∷ []) → IsCurrent (life_of name gs).last content
         first_in p content is = subst (λ (l : Option (Option Maker)). IsCurrent l content) (sym made) (ap (is_from maker.at) is ∙ ap (nat_le (lsn_number maker.at)) (number p) ∙ le_self (lsn_number maker.at))
           where
             le_self : (n : ℕ) → nat_le n n ≡ true
             le_self n = grind (arith, nat_tests)
+
         keys_there : IsInAll s4 name Keys
         keys_there = written_there name Rows Keys 0 (made_page maker Rows) s3 s4 rows_page.images (written_there name Keys Keys 0 (made_page maker Keys) s2 s3 keys_page.images (all_there name Keys [] s2 keys2))
+
         rows_there : IsInAll s4 name Rows
         rows_there = written_there name Rows Rows 0 (made_page maker Rows) s3 s4 rows_page.images (all_there name Rows [] s3 rows3)
+
         now_in : (c : Folder) → s6.may_leave c → AreCurrent name gs c
         now_in c leaves Keys = first_in Keys (c (file name Keys)) (keys_sync.durable (cc) c (rows_sync.no_more c leaves) (keys_there c (keys_sync.no_more c (rows_sync.no_more c leaves))) ∙ keys4)
         now_in c leaves Rows = first_in Rows (c (file name Rows)) (rows_sync.durable (cc) c leaves (rows_there c (keys_sync.no_more c (rows_sync.no_more c leaves))) ∙ ap (λ (f : Folder). f (file name Rows)) keys_sync.folder ∙ rows4)
+
         after : AreImages (λ n. same_name name n || opened n) s6 gs (length gs)
         after c leaves = image_opened opened gs (length gs) name s6.folder c (now_in c leaves) (whole.images c leaves)
 
@@ -129,17 +146,23 @@ module _ (opened : List ℕ → Bool) (gs : List Logged) (name : List ℕ) (clos
     pub anew : (p : Part) (s0 s1 s2 s3 s4 : State) → IsSteady s0 → IsSteady s1 → IsSteady s2 → IsSteady s3 → IsSteady s4 → AreImages opened s0 gs (length gs)
         → ((c : Folder) → s0.may_leave c → is_from maker.at (c (file name p)) ≡ false) → Removes (file name p) s0 s1 true → Creates (file name p) s1 s2 true → Writes (file name p) 0 (made_page maker p) s2 s3 true → Syncs (file name p) s3 s4 true
         → Calm opened s0 s4 gs (length gs) × InAll s4 name p (Some (made_page maker p ∷ []))
-    anew p s0 s1 s2 s3 s4 h0 h1 h2 h3 h4 images older removed empty page synced = (calm_on opened s0 s1 s4 gs (length gs) c1 (calm_on opened s1 s2 s4 gs (length gs) c2 (calm_on opened s2 s3 s4 gs (length gs) c3 c4)),
-        λ c leaves. synced.durable (cc) c leaves (written_there name p p 0 (made_page maker p) s2 s3 page.images (all_there name p [] s2 empty2) c (synced.no_more c leaves)) ∙ first_reads p s2 s3 (empty2 s2.folder h2.now) page)
+    anew p s0 s1 s2 s3 s4 h0 h1 h2 h3 h4 images older removed empty page synced = (
+      calm_on opened s0 s1 s4 gs (length gs) c1 (calm_on opened s1 s2 s4 gs (length gs) c2 (calm_on opened s2 s3 s4 gs (length gs) c3 c4)),
+      λ c leaves. synced.durable (cc) c leaves (written_there name p p 0 (made_page maker p) s2 s3 page.images (all_there name p [] s2 empty2) c (synced.no_more c leaves)) ∙ first_reads p s2 s3 (empty2 s2.folder h2.now) page,
+    )
       where
         c1 : Calm opened s0 s1 gs (length gs)
         c1 = calm_make p s0 s1 None true refl h0 h1 images older removed.images removed.tells
+
         c2 : Calm opened s1 s2 gs (length gs)
         c2 = calm_make p s1 s2 (Some []) true refl h1 h2 c1.images (λ c leaves. ap (is_from maker.at) (made_in_all name p None s0 s1 removed.images c leaves)) empty.images empty.tells
+
         empty2 : InAll s2 name p (Some [])
         empty2 = made_in_all name p (Some []) s1 s2 empty.images
+
         c3 : Calm opened s2 s3 gs (length gs)
         c3 = calm_first p s2 s3 true h2 h3 c2.images empty2 page
+
         c4 : Calm opened s3 s4 gs (length gs)
         c4 = calm_sync opened s3 s4 gs (length gs) name p true h3.only h4.now c3.images synced
 

@@ -1,11 +1,11 @@
 -- What each step does to all frames: it changes those of one key, and the others stay.
-use Rattle.std.proofs.Common.{◌≡◌, ◌∙◌, ◌||◌, ℕ, ◌<◌, ◌≤◌, Bool, true, false, cond, List, [], ◌∷◌, ◌++◌, nat_eq, ap, sym, refl, subst, Option, None, Some}
+use Rattle.std.proofs.Common.{◌≡◌, ◌∙◌, ◌||◌, ℕ, ◌<◌, ◌≤◌, Bool, true, false, cond, List, [], ◌++◌, nat_eq, ap, sym, refl, subst, Option, None, Some}
 use Rattle.std.specs.Option.{option_map}
 use Rattle.std.specs.Map.{update}
 use Rattle.std.proofs.lemmas.Bool.{eqb-true, eq-eqb}
 use Rattle.aria_page.specs.declared.edit.Edit.{Edit}
 use Rattle.aria_recovery.specs.Redo.{Seen, is_some_edit, stepped}
-use Rattle.aria_recovery.specs.Frames.{Held, Frames, as_seen, dirty_of, is_dirty, edited_held, stamped, cleaned, PageOn, FrameOn}
+use Rattle.aria_recovery.specs.Frames.{Held, Frames, as_seen, is_dirty, edited_held, stamped, cleaned, PageOn, FrameOn}
 use Rattle.aria_recovery.proofs.Holding.{page_none, page_later, page_begun, page_loaded, page_washed, page_taken, page_edited, page_passed, page_ended, page_free, is_changed}
 
 -- the same page by equal parts
@@ -65,8 +65,8 @@ module _ (known : ℕ → Bool) (frames : Frames) (pins : ℕ → Bool) (raw mad
       → raw' n ≡ Some (as_seen h) → made' n ≡ Some (as_seen h) → Holds → FrameOn known (update nat_eq frames n (option_map cleaned (frames n))) pins raw' made' edits at next
   frame_washed n h raw' made' there free others_raw others_made wrote makes is = subst (λ (f : Option Held). FrameOn known (update nat_eq frames n f) pins raw' made' edits at next) (sym (ap (option_map cleaned) there))
       (frame_one n (Some (cleaned h)) pins raw' made' edits (λ k off. refl) others_raw others_made (λ k off. refl)
-        (page_same (known n) (known n) (Some (cleaned h)) (Some (cleaned h)) false (pins n) (Some (as_seen h)) (raw' n) (Some (as_seen h)) (made' n) (edits n) (edits n) at next refl refl free wrote makes refl
-          (page_washed (known n) (raw n) (made n) (edits n) at next h (subst (λ (b : Bool). PageOn (known n) (Some h) b (raw n) (made n) (edits n) at next) free (here_is n (Some h) there is)))) is)
+      (page_same (known n) (known n) (Some (cleaned h)) (Some (cleaned h)) false (pins n) (Some (as_seen h)) (raw' n) (Some (as_seen h)) (made' n) (edits n) (edits n) at next refl refl free wrote makes refl
+      (page_washed (known n) (raw n) (made n) (edits n) at next h (subst (λ (b : Bool). PageOn (known n) (Some h) b (raw n) (made n) (edits n) at next) free (here_is n (Some h) there is)))) is)
 
   -- what a page that isn't pinned is
   pub frame_free : (n : ℕ) (h : Held) → frames n ≡ Some h → pins n ≡ false → Holds → made n ≡ Some (as_seen h)
@@ -77,9 +77,9 @@ module _ (known : ℕ → Bool) (frames : Frames) (pins : ℕ → Bool) (raw mad
       → edits' n ≡ edits n ++ es → ((k : ℕ) → nat_eq n k ≡ false → edits' k ≡ edits k) → Holds → FrameOn known (update nat_eq frames n (option_map (edited_held es) (frames n))) pins' raw made edits' at next
   frame_edited n h es pins' edits' some there low pins_are mine others is = subst (λ (f : Option Held). FrameOn known (update nat_eq frames n f) pins' raw made edits' at next) (sym (ap (option_map (edited_held es)) there))
       (frame_one n (Some (edited_held es h)) pins' raw made edits' (λ k off. pins_are k ∙ ap (λ (b : Bool). b || pins k) off) (λ k off. refl) (λ k off. refl) others
-        (page_same (known n) (known n) (Some (edited_held es h)) (Some (edited_held es h)) true (pins' n) (raw n) (raw n) (made n) (made n) (edits n ++ es) (edits' n) at next refl refl
-          (pins_are n ∙ ap (λ (b : Bool). b || pins n) (eq-eqb n n refl)) refl refl mine
-          (page_edited (known n) (pins n) (raw n) (made n) (edits n) es at next h some low (here_is n (Some h) there is))) is)
+      (page_same (known n) (known n) (Some (edited_held es h)) (Some (edited_held es h)) true (pins' n) (raw n) (raw n) (made n) (made n) (edits n ++ es) (edits' n) at next refl refl
+      (pins_are n ∙ ap (λ (b : Bool). b || pins n) (eq-eqb n n refl)) refl refl mine
+      (page_edited (known n) (pins n) (raw n) (made n) (edits n) es at next h some low (here_is n (Some h) there is))) is)
 
   -- a page has the edits already
   pub frame_passed : (n : ℕ) (h : Held) (es : List Edit) (edits' : ℕ → List Edit) → frames n ≡ Some h → at ≤ h.lsn → edits' n ≡ edits n ++ es → ((k : ℕ) → nat_eq n k ≡ false → edits' k ≡ edits k) → Holds → FrameOn known frames pins raw made edits' at next
@@ -88,7 +88,7 @@ module _ (known : ℕ → Bool) (frames : Frames) (pins : ℕ → Bool) (raw mad
       by : (b : Bool) → nat_eq n k ≡ b → PageOn (known k) (frames k) (pins k) (raw k) (made k) (edits' k) at next
       by true on = subst (λ (j : ℕ). PageOn (known j) (frames j) (pins j) (raw j) (made j) (edits' j) at next) (eqb-true n k on)
           (page_same (known n) (known n) (Some h) (frames n) (pins n) (pins n) (raw n) (raw n) (made n) (made n) (edits n ++ es) (edits' n) at next refl there refl refl refl mine
-            (page_passed (known n) (pins n) (raw n) (made n) (edits n) es at next h past (here_is n (Some h) there is)))
+          (page_passed (known n) (pins n) (raw n) (made n) (edits n) es at next h past (here_is n (Some h) there is)))
       by false off = subst (λ (es : List Edit). PageOn (known k) (frames k) (pins k) (raw k) (made k) es at next) (sym (others k off)) (is k)
 
   -- THE GROUP ENDS: the pinned pages get its number, and it counts among the groups
@@ -110,6 +110,7 @@ module _ (known : ℕ → Bool) (frames : Frames) (pins : ℕ → Bool) (raw mad
     where
       free : pins k ≡ false
       free = (is k).pinned ∙ ap (λ (es : List Edit). is_changed at es (made k)) (none k)
+
       by : (b : Bool) → gone k ≡ b → PageOn (known' k) (cond (gone k) None (frames k)) (pins k) (raw' k) (made' k) (edits k) at next
       by true on = page_same (known' k) (known' k) None (cond (gone k) None (frames k)) false (pins k) (raw' k) (raw' k) (raw' k) (made' k) [] (edits k) at next refl (ap (λ (b : Bool). cond b None (frames k)) on) free refl (done k on) (none k) (page_none (known' k) (raw' k) at next)
       by false off = page_same (known k) (known' k) (frames k) (cond (gone k) None (frames k)) (pins k) (pins k) (raw k) (raw' k) (made k) (made' k) (edits k) (edits k) at next

@@ -61,6 +61,7 @@ number_from at page body lsn is from = by (is_sound page) is
     first_of : Option (ℕ × List ℕ) → ℕ
     first_of None = 0
     first_of (Some p) = p.0
+
     by : (b : Bool) → seen_by (page_number page) (page_body page) b ≡ Some (lsn, body) → at ≤ page_number page
     by true same = let e : page_number page ≡ lsn = ap first_of same in omega (arith, e, from)
     by false same = absurd (cc)

@@ -3,7 +3,6 @@ use Rattle.std.proofs.Common.{◌≡◌, ◌∙◌, ℕ, List, [], ◌∷◌, �
 use Rattle.std.specs.Option.{option_map}
 use Rattle.std.proofs.lemmas.List.{append-nil}
 use Rattle.std.specs.List.{AllByRecursion}
-use Rattle.aria_page.specs.declared.place.Part.{Part}
 use Rattle.aria_host.specs.Folder.{Folder}
 use Rattle.aria_record.specs.Logged.{Logged}
 use Rattle.aria_recovery.specs.Tables.{Maker, Life, Table, lives, life_from, life_of, told_by, table_of, tables_of}

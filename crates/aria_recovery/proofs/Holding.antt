@@ -55,6 +55,7 @@ topped_before at es (Some s) lsn body is = ap (λ (k : ℕ). nat_lt k at) (by (n
     first_of : Seen → ℕ
     first_of None = 0
     first_of (Some p) = p.0
+
     by : (b : Bool) → Some (cond b (s.0, all_edited es s.1) s) ≡ Some (lsn, body) → s.0 ≡ lsn
     by true same = ap first_of same
     by false same = ap first_of same
@@ -187,12 +188,15 @@ page_ended known frame true raw made edits at at' next next' low le is = record 
     same_dirt : (f : Option Held) → dirty_of (option_map (stamped at) f) ≡ dirty_of f
     same_dirt None = refl
     same_dirt (Some h) = refl
+
     held_by : (f : Option Held) → frame ≡ f → (j : Held) → option_map (stamped at) f ≡ Some j → stepped at edits made ≡ Some (as_seen j)
     held_by None f_is j e = absurd (cc)
     held_by (Some h) f_is j e = stepped_topped at edits made h.lsn h.body (sym is.pinned) (is.held h f_is) ∙ ap (λ (i : Held). Some (as_seen i)) (some_held (stamped at h) j e)
+
     known_by : (f : Option Held) → frame ≡ f → (j : Held) → option_map (stamped at) f ≡ Some j → known ≡ true
     known_by None f_is j e = absurd (cc)
     known_by (Some h) f_is j e = is.is_known h f_is
+
     below_by : (f : Option Held) (j : Held) → option_map (stamped at) f ≡ Some j → j.lsn < next'
     below_by None j e = absurd (cc)
     below_by (Some h) j e = subst (λ (i : Held). i.lsn < next') (some_held (stamped at h) j e) low

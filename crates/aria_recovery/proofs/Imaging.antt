@@ -7,7 +7,7 @@ use Rattle.std.proofs.lemmas.Bool.{cases_Bool}
 use Rattle.std.proofs.lemmas.List.{take_all}
 use Rattle.aria_page.specs.Lsn.{lsn_number}
 use Rattle.aria_page.specs.declared.place.Part.{Part}
-use Rattle.aria_page.specs.declared.place.Part.TheVariants.{Keys, Rows}
+use Rattle.aria_page.specs.declared.place.Part.TheVariants.{Keys}
 use Rattle.aria_host.specs.declared.file_name.FileName.{FileName}
 use Rattle.aria_host.specs.Folder.{Folder, put_page, with_file, is_log}
 use Rattle.aria_host.specs.State.{State}
@@ -33,7 +33,7 @@ module _ (opened : List ℕ → Bool) (gs : List Logged) where
       let at = neutral here.0 t.folder here.1 here.2 in
       record {
         agrees = agrees_on gs forced t.folder here.0 c (agrees_sym gs forced here.0 t.folder at.agrees)
-          (agrees_on gs forced here.0 s.folder c (agrees_sym gs forced s.folder here.0 (images here.0 here.1).agrees) (agrees_on gs forced s.folder to.0 c (images to.0 to.1).agrees is.agrees));
+            (agrees_on gs forced here.0 s.folder c (agrees_sym gs forced s.folder here.0 (images here.0 here.1).agrees) (agrees_on gs forced s.folder to.0 c (images to.0 to.1).agrees is.agrees));
         current = is.current;
       }
 
@@ -57,6 +57,7 @@ module _ (opened : List ℕ → Bool) (gs : List Logged) where
     where
       is_there_of : (name : List ℕ) (m : ℕ) (f : Content) → Bool
       is_there_of name m f = is_there (life_of name (take m gs)).last f
+
       file_at : (name : List ℕ) (m : ℕ) (part : Part) (f : Content) → Option File
       file_at name m part f = file_of name part (life_of name (take m gs)).since (begun part (life_of name (take m gs)).last f)
 
@@ -72,8 +73,10 @@ module _ (opened : List ℕ → Bool) (gs : List Logged) where
       → IsNeutral opened gs forced now (MayMake (file name p) None done)
   removed_step name p forced now done closed none d c is (inr (failed, same)) = none_done forced now d c is same
   removed_step name p forced now done closed none d c is (inl same) = subst (IsImage opened gs forced d) (sym same) (record {
-    agrees = record { tables = λ m lo hi other. one_name name (take m gs) d (with_file (file name p) None d) (aside name p None d)
-        (was m lo hi ∙ sym (removed_none name (take m gs) p d (was m lo hi))) other };
+    agrees = record {
+      tables = λ m lo hi other. one_name name (take m gs) d (with_file (file name p) None d) (aside name p None d)
+          (was m lo hi ∙ sym (removed_none name (take m gs) p d (was m lo hi))) other;
+    };
     current = current_aside name forced now d (with_file (file name p) None d) closed (aside name p None d) is;
   })
     where
@@ -131,6 +134,7 @@ module _ (opened : List ℕ → Bool) (gs : List Logged) where
     where
       whole : tables_of d gs name ≡ tables_of now gs name
       whole = subst (λ (l : List Logged). tables_of d l name ≡ tables_of now l name) (take_all (length gs) gs (omega arith)) (sym (is.agrees.tables (length gs) (omega arith) (omega arith) name))
+
       by : (content : Content) → d (file name p) ≡ content → IsImage opened gs (length gs) d c
       by None none = absurd (no_file (life_of name gs).last (subst (IsCurrent (life_of name gs).last) none (is.current name on p)))
       by (Some pages) some = subst (IsImage opened gs (length gs) d) (sym (same ∙ ap (λ (f : Content). with_file (file name p) (option_map (put_page n page) f) d) some)) (record {
@@ -141,11 +145,14 @@ module _ (opened : List ℕ → Bool) (gs : List Logged) where
         where
           put : Folder
           put = with_file (file name p) (Some (put_page n page pages)) d
+
           after : IsCurrent (life_of name gs).last (Some (put_page n page pages))
           after = current_put (life_of name gs).last n page pages (subst (IsCurrent (life_of name gs).last) some (is.current name on p)) first
+
           mine : (part : Part) (b : Bool) → same_part p part ≡ b → IsCurrent (life_of name gs).last (put (file name part))
           mine part true here = subst (λ (q : Part). IsCurrent (life_of name gs).last (put (file name q))) (part_is p part here) (subst (IsCurrent (life_of name gs).last) (sym (with_file-same (file name p) (Some (put_page n page pages)) d)) after)
           mine part false else = subst (IsCurrent (life_of name gs).last) (sym (with_file-other (file name p) (file name part) (Some (put_page n page pages)) d (apart_part name p part else))) (is.current name on part)
+
           now_current : (other : List ℕ) (part : Part) → IsTrue (opened other) → (b : Bool) → same_name name other ≡ b → IsCurrent (life_of other gs).last (put (file other part))
           now_current other part lit true here = subst (λ (k : List ℕ). IsCurrent (life_of k gs).last (put (file k part))) ((bytes_decides name other).0 here) (mine part (same_part p part) refl)
           now_current other part lit false else = subst (IsCurrent (life_of other gs).last) (sym (aside name p (Some (put_page n page pages)) d other part else)) (is.current other lit part)

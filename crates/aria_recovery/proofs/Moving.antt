@@ -1,5 +1,5 @@
 -- One call after another: groups are added, and tables stay or change by them.
-use Rattle.std.proofs.Common.{◌≡◌, ◌∙◌, ◌⊎◌, ℕ, ◌+◌, ◌<◌, ◌≤◌, Bool, true, false, cond, List, [], ◌∷◌, ◌++◌, length, take, nat_le, ap, sym, refl, subst, arith, length-append, append_assoc, None, Some, inl, inr}
+use Rattle.std.proofs.Common.{◌≡◌, ◌∙◌, ◌⊎◌, ℕ, ◌+◌, ◌<◌, ◌≤◌, Bool, cond, List, [], ◌∷◌, ◌++◌, length, take, nat_le, ap, sym, refl, subst, arith, length-append, append_assoc, None, Some, inl, inr}
 use Rattle.std.proofs.lemmas.Bool.{cases_lt}
 use Rattle.std.specs.Prelude.{IsTrue}
 use Rattle.std.proofs.lemmas.List.{take-append-le, append-nil, length_push}
@@ -101,13 +101,16 @@ module _ (HoldsLog : Folder → List Logged → Type 0) (opened : List ℕ → B
     where
       lengths : length gb ≡ length ga + length first.more
       lengths = ap length first.grows ∙ length-append ga first.more
+
       all : Versions
       all = both (length gb) first.tables second.tables
+
       second_is : (m : ℕ) (name : List ℕ) → fb ≤ m → all m name ≡ second.tables m name
       second_is m name lo = elim (cases_lt (length gb) m) [
         | inl high ↦ both_other (length gb) m first.tables second.tables name high
         | inr low ↦ both_one (length gb) m first.tables second.tables name low ∙ first.ends m lo low name ∙ sym (second.starts m lo low name)
       ]
+
       longer : (f : Folder) (told : List ℕ) → AtFront HoldsLog first.tables gb fa a.out f told → AtFront HoldsLog all gc fa a.out f told
       longer f told at =
           let same : take at.count gc ≡ take at.count gb = ap (take at.count) second.grows ∙ take-append-le at.count gb second.more at.within in
@@ -119,6 +122,7 @@ module _ (HoldsLog : Folder → List Logged → Type 0) (opened : List ℕ → B
             is = λ name. ap (λ (l : List Logged). tables_of f l name) same ∙ at.is name ∙ sym (both_one (length gb) at.count first.tables second.tables name at.within);
             told_is = at.told_is;
           }
+
       on : (f : Folder) (told : List ℕ) → AtFront HoldsLog second.tables gc fb b.out f told → AtFront HoldsLog all gc fa a.out f told
       on f told at = record {
         count = at.count;
@@ -186,7 +190,7 @@ module _ (HoldsLog : Folder → List Logged → Type 0) (opened : List ℕ → B
       → Moments is_log old new (HasFront HoldsLog (gs ++ g ∷ []) forced) → Moves HoldsLog opened old new gs (gs ++ g ∷ []) forced forced
   moves_append old new gs g forced few images meets older shut moments =
       moves_log old new gs (g ∷ []) forced forced (omega arith) (omega (arith, few, length_push gs g)) (λ d left. (pushed d left).agrees) (applies_one old.folder gs g meets) (log_moments old new (gs ++ g ∷ []) forced moments)
-        (λ name part. moments.others.folder (file name part) (no_log name part)) (images_log opened old new (gs ++ g ∷ []) forced pushed moments.others) moments.others.out moments.others.err
+      (λ name part. moments.others.folder (file name part) (no_log name part)) (images_log opened old new (gs ++ g ∷ []) forced pushed moments.others) moments.others.out moments.others.err
     where
       pushed : AreImages opened old (gs ++ g ∷ []) forced
       pushed d left = image_push opened gs g forced old.folder d few (λ name maker told. ((meets name).older maker told, older name maker d told left)) shut (images d left)
@@ -196,10 +200,10 @@ module _ (HoldsLog : Folder → List Logged → Type 0) (opened : List ℕ → B
       → Moves HoldsLog opened old new gs gs forced forced'
   moves_force old new gs forced forced' more few images moments =
       subst (λ (l : List Logged). Moves HoldsLog opened old new gs l forced forced') (append-nil gs)
-        (moves_log old new gs [] forced forced' more (subst (λ (l : List Logged). forced' ≤ length l) (sym (append-nil gs)) few)
-          (λ d left. subst (λ (l : List Logged). Agrees l forced old.folder d) (sym (append-nil gs)) (images d left).agrees)
-          (applies_none (λ m name. tables_of old.folder (take m (gs ++ [])) name) (length gs))
-          (subst (λ (l : List Logged). LeavesOnly old new (AtLog old l forced)) (sym (append-nil gs)) (log_moments old new gs forced moments))
-          (λ name part. moments.others.folder (file name part) (no_log name part))
-          (subst (λ (l : List Logged). AreImages opened new l forced') (sym (append-nil gs)) (λ c leaves. image_forced opened gs forced forced' new.folder c more (images_log opened old new gs forced images moments.others c leaves)))
-          moments.others.out moments.others.err)
+      (moves_log old new gs [] forced forced' more (subst (λ (l : List Logged). forced' ≤ length l) (sym (append-nil gs)) few)
+      (λ d left. subst (λ (l : List Logged). Agrees l forced old.folder d) (sym (append-nil gs)) (images d left).agrees)
+      (applies_none (λ m name. tables_of old.folder (take m (gs ++ [])) name) (length gs))
+      (subst (λ (l : List Logged). LeavesOnly old new (AtLog old l forced)) (sym (append-nil gs)) (log_moments old new gs forced moments))
+      (λ name part. moments.others.folder (file name part) (no_log name part))
+      (subst (λ (l : List Logged). AreImages opened new l forced') (sym (append-nil gs)) (λ c leaves. image_forced opened gs forced forced' new.folder c more (images_log opened old new gs forced images moments.others c leaves)))
+      moments.others.out moments.others.err)

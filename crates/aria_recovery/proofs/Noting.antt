@@ -1,5 +1,5 @@
 -- One table's life is taken out, changed and put back.
-use Rattle.std.proofs.Common.{◌≡◌, ◌∙◌, ◌&&◌, ◌||◌, ◌+◌, ℕ, Bool, true, false, cond, List, [], ◌∷◌, ◌++◌, nat_eq, max, ap, sym, refl, subst, arith, Option, None, Some, Result, OnOk, IfOk, Ok, Err}
+use Rattle.std.proofs.Common.{◌≡◌, ◌∙◌, ◌&&◌, ◌||◌, ◌+◌, ℕ, Bool, true, false, cond, List, [], ◌∷◌, ◌++◌, nat_eq, max, ap, sym, refl, arith, Option, None, Some, Result, OnOk, IfOk, Ok, Err}
 use Rattle.std.specs.List.{list_any}
 use Rattle.std.specs.Prelude.{is_some}
 use Rattle.std.proofs.lemmas.List.Folds.{list_any-append}
@@ -45,6 +45,7 @@ module _ (name : List ℕ) (life : Life) (old new : Lives) (is : Puts name life 
     where
       here : Bool
       here = same_part p part && (nat_eq n page && some)
+
       by : (b : Bool) → is_eq (slice_cmp nat_cmp name q) ≡ b → edit_at (cond b (Some life) (life_at old q)) p n ≡ cond (is_eq (slice_cmp nat_cmp name q) && here) (Some at) (edit_at (life_at old q) p n)
       by true same = noted p n ∙ ap (λ (o : Option Lsn). cond here (Some at) o) (was p n ∙ ap (λ (k : List ℕ). edit_at (life_at old k) p n) (name_is name q same)) ∙ sym (ap (λ (b : Bool). cond (b && here) (Some at) (edit_at (life_at old q) p n)) same)
       by false other = sym (ap (λ (b : Bool). cond (b && here) (Some at) (edit_at (life_at old q) p n)) other)
@@ -56,6 +57,7 @@ module _ (name : List ℕ) (life : Life) (old new : Lives) (is : Puts name life 
     where
       raised : Bool → ℕ → ℕ
       raised b n = cond b (max n (page + 1)) n
+
       by : (b : Bool) → is_eq (slice_cmp nat_cmp name q) ≡ b → reach_at (cond b (Some life) (life_at old q)) p ≡ raised (is_eq (slice_cmp nat_cmp name q) && same_part p part) (reach_at (life_at old q) p)
       by true same = noted p ∙ ap (raised (same_part p part)) (was p ∙ ap (λ (k : List ℕ). reach_at (life_at old k) p) (name_is name q same)) ∙ sym (ap (λ (b : Bool). raised (b && same_part p part) (reach_at (life_at old q) p)) same)
       by false other = sym (ap (λ (b : Bool). raised (b && same_part p part) (reach_at (life_at old q) p)) other)
@@ -121,6 +123,7 @@ redo_edits at q table p part n page kind es last = ap (λ (b : Bool). cond (b &&
     one : (d : Bool) → cond (d && is_some_edit es) (Some at) last ≡ cond (is_some_edit (cond d es [])) (Some at) last
     one true = refl
     one false = refl
+
     by : (b c : Bool) → cond (b && (c && (nat_eq n page && is_some_edit es))) (Some at) last ≡ cond (is_some_edit (edits_at n (cond (b && c) (Some (page, es)) None))) (Some at) last
     by false c = refl
     by true false = refl
@@ -150,12 +153,12 @@ notes_none at lives = record { edits = λ q p n. refl; reach = λ q p. omega ari
 pub notes_more : (at : Lsn) (rs : List Record) (r : Record) (a b c : Lives) → NotesAll at rs a b → Notes at r b c → NotesAll at (rs ++ r ∷ []) a c
 notes_more at rs r a b c first second = record {
   edits = λ q p n. second.edits q p n ∙ ap (edit_after at (edits_at n (edits_in q p r))) (first.edits q p n) ∙ edit_after_on at (edits_on q p n rs) (edits_at n (edits_in q p r)) (edit_at (life_at a q) p n)
-    ∙ ap (λ (es : List Edit). edit_after at es (edit_at (life_at a q) p n)) (sym (edits_push q p n rs r));
+      ∙ ap (λ (es : List Edit). edit_after at es (edit_at (life_at a q) p n)) (sym (edits_push q p n rs r));
   reach = λ q p. second.reach q p ∙ ap (λ (n : ℕ). max n (reach_by (edits_in q p r))) (first.reach q p) ∙ omega (arith, reach_on_push q p rs r);
   told = λ q. second.told q ∙ first.told q;
   file_group = λ q. second.file_group q ∙ first.file_group q;
   names = λ q. second.names q ∙ ap (λ (b : Bool). is_redo_of q r || b) (first.names q) ∙ either (is_redo_of q r) (list_any (is_redo_of q) rs) (is_known a q)
-    ∙ ap (λ (b : Bool). b || is_known a q) (sym (list_any-append (is_redo_of q) (rs) (r ∷ [])));
+      ∙ ap (λ (b : Bool). b || is_known a q) (sym (list_any-append (is_redo_of q) (rs) (r ∷ [])));
 }
   where
     either : (r q b : Bool) → (r || (q || b)) ≡ ((q || (r || false)) || b)
@@ -175,7 +178,7 @@ pub notes_redo : (at : Lsn) (kind : RedoKind) (table : List ℕ) (part : Part) (
     → ((q : List ℕ) → told_at (life_at new q) ≡ told_at (life_at old q)) → ((q : List ℕ) → file_group_at (life_at new q) ≡ file_group_at (life_at old q)) → ((q : List ℕ) → is_known new q ≡ (is_eq (slice_cmp nat_cmp table q) || is_known old q)) → Notes at (Redo kind table part page es) old new
 notes_redo at kind table part page es some old new is edits reach told file_group names = record {
   edits = λ q p n. edits q p n ∙ ap (λ (b : Bool). cond (is_eq (slice_cmp nat_cmp table q) && (same_part p part && (nat_eq n page && b))) (Some at) (edit_at (life_at old q) p n)) is
-    ∙ redo_edits at q table p part n page kind es (edit_at (life_at old q) p n);
+      ∙ redo_edits at q table p part n page kind es (edit_at (life_at old q) p n);
   reach = λ q p. reach q p ∙ redo_reach q table p part page kind es (reach_at (life_at old q) p);
   told = told;
   file_group = file_group;
@@ -204,6 +207,7 @@ settles_anew at r table last old new said is_file edits reach told file_group na
         by : (b : Bool) → cond b anew was ≡ unless_said (cond b (Some last) None) was anew
         by true = refl
         by false = refl
+
     told_by_name : (q : List ℕ) (was : Told) → cond (is_eq (slice_cmp nat_cmp table q)) (told_of (Some last)) was ≡ unless_said (cond (same_name q table) (Some last) None) was (told_of (cond (same_name q table) (Some last) None))
     told_by_name q was = ap (λ (b : Bool). cond b (told_of (Some last)) was) (same_names table q) ∙ by (same_name q table)
       where

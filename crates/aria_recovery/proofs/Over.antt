@@ -19,8 +19,8 @@ use Rattle.aria_recovery.proofs.Placing.{raw_here, raw_others, edits_more, edits
 pub over_none : (known : ℕ → Bool) (place : Spots) (d : Folder) (gs : List Logged) (at next : ℕ) → FramesOver known (λ k. None) (λ k. false) place d gs 0 [] at next
 over_none known place d gs at next =
     subst (λ (es : ℕ → List Edit). FrameOn known (λ k. None) (λ k. false) (λ k. raw_at d (place k)) (λ k. redone_at gs 0 (place k) (raw_at d (place k))) es at next) (λ i k. sym (edits_begin gs 0 (place k)) i)
-      (frame_alike known (λ k. None) (λ k. false) (λ k. raw_at d (place k)) (λ k. raw_at d (place k)) (λ k. []) at next known (λ k. raw_at d (place k)) (λ k. redone_at gs 0 (place k) (raw_at d (place k)))
-        (λ k. refl) (λ k. refl) (λ k. redone_zero gs (place k) (raw_at d (place k))) (frame_none known (λ k. raw_at d (place k)) at next))
+    (frame_alike known (λ k. None) (λ k. false) (λ k. raw_at d (place k)) (λ k. raw_at d (place k)) (λ k. []) at next known (λ k. raw_at d (place k)) (λ k. redone_at gs 0 (place k) (raw_at d (place k)))
+    (λ k. refl) (λ k. refl) (λ k. redone_zero gs (place k) (raw_at d (place k))) (frame_none known (λ k. raw_at d (place k)) at next))
 
 module _ (known : ℕ → Bool) (frames : Frames) (pins : ℕ → Bool) (place : Spots) (d : Folder) (gs : List Logged) (i : ℕ) (rs : List Record) (at next : ℕ) where
   abbrev raw : ℕ → Seen
@@ -37,13 +37,15 @@ module _ (known : ℕ → Bool) (frames : Frames) (pins : ℕ → Bool) (place :
       → FramesOver known frames pins place d gs i rs at next → FramesOver known (update nat_eq frames n (option_map cleaned (frames n))) pins place (with_page (file s.name s.part) s.page page d) gs i rs at next
   over_written n h s page pages apart here is there free sealed frame =
       frame_washed known frames pins raw made edits at next n h (λ k. raw_at put (place k)) (λ k. redone_at gs i (place k) (raw_at put (place k))) there free
-        (λ k off. raw_others d s page pages is place n apart here k off) (λ k off. ap (redone_at gs i (place k)) (raw_others d s page pages is place n apart here k off))
-        wrote (ap (redone_at gs i (place n)) (wrote ∙ sym as_made) ∙ redone_steady gs i (place n) (raw n) ∙ as_made) frame
+      (λ k off. raw_others d s page pages is place n apart here k off) (λ k off. ap (redone_at gs i (place k)) (raw_others d s page pages is place n apart here k off))
+      wrote (ap (redone_at gs i (place n)) (wrote ∙ sym as_made) ∙ redone_steady gs i (place n) (raw n) ∙ as_made) frame
     where
       put : Folder
       put = with_page (file s.name s.part) s.page page d
+
       as_made : made n ≡ Some (as_seen h)
       as_made = frame_free known frames pins raw made edits at next n h there free frame
+
       wrote : raw_at put (place n) ≡ Some (as_seen h)
       wrote = ap (raw_at put) here ∙ raw_here d s page pages is ∙ sealed
 
@@ -53,7 +55,7 @@ module _ (known : ℕ → Bool) (frames : Frames) (pins : ℕ → Bool) (place :
       → FramesOver known (update nat_eq frames n (option_map (edited_held es) (frames n))) pins' place d gs i (rs ++ Redo kind s.name s.part s.page es ∷ []) at next
   over_edited n h s kind es pins' apart here counts some there low pins_are frame =
       frame_edited known frames pins raw made edits at next n h es pins' (λ k. edits_of gs i (rs ++ Redo kind s.name s.part s.page es ∷ []) (place k)) some there low pins_are
-        (mine n s kind es here counts) (λ k off. edits_apart gs i rs s kind es place n apart here k off) frame
+      (mine n s kind es here counts) (λ k off. edits_apart gs i rs s kind es place n apart here k off) frame
     where
       mine : (n : ℕ) (s : Spot) (kind : RedoKind) (es : List Edit) → place n ≡ Some s → base_of s.name gs ≤ i → edits_of gs i (rs ++ Redo kind s.name s.part s.page es ∷ []) (place n) ≡ edits_of gs i rs (place n) ++ es
       mine n s kind es here counts = ap (edits_of gs i (rs ++ Redo kind s.name s.part s.page es ∷ [])) here ∙ edits_more gs i rs s kind es counts ∙ ap (λ (p : Option Spot). edits_of gs i rs p ++ es) (sym here)
@@ -63,8 +65,8 @@ module _ (known : ℕ → Bool) (frames : Frames) (pins : ℕ → Bool) (place :
       → FramesOver known frames pins place d gs i rs at next → FramesOver known frames pins place d gs i (rs ++ Redo kind s.name s.part s.page es ∷ []) at next
   over_passed n h s kind es apart here counts there past frame =
       frame_passed known frames pins raw made edits at next n h es (λ k. edits_of gs i (rs ++ Redo kind s.name s.part s.page es ∷ []) (place k)) there past
-        (ap (edits_of gs i (rs ++ Redo kind s.name s.part s.page es ∷ [])) here ∙ edits_more gs i rs s kind es counts ∙ ap (λ (p : Option Spot). edits_of gs i rs p ++ es) (sym here))
-        (λ k off. edits_apart gs i rs s kind es place n apart here k off) frame
+      (ap (edits_of gs i (rs ++ Redo kind s.name s.part s.page es ∷ [])) here ∙ edits_more gs i rs s kind es counts ∙ ap (λ (p : Option Spot). edits_of gs i rs p ++ es) (sym here))
+      (λ k off. edits_apart gs i rs s kind es place n apart here k off) frame
 
   -- A record that changes no page of a key that is known here is passed over.
   pub over_aside : (r : Record) → ((k : ℕ) → edits_of gs i (rs ++ r ∷ []) (place k) ≡ edits_of gs i rs (place k)) → FramesOver known frames pins place d gs i rs at next → FramesOver known frames pins place d gs i (rs ++ r ∷ []) at next
@@ -84,8 +86,8 @@ pub over_next : (known : ℕ → Bool) (frames : Frames) (pins : ℕ → Bool) (
     → FramesOver known (λ k. cond (pins k) (option_map (stamped (number_at g.at)) (frames k)) (frames k)) (λ k. false) place d gs (length before + 1) [] at' next
 over_next known frames pins place d gs before after g at' next is low frame =
     ends_empty known (λ k. cond (pins k) (option_map (stamped (number_at g.at)) (frames k)) (frames k)) (λ k. false) place d gs (length before + 1) at' next
-      (frame_ended known frames pins (λ k. raw_at d (place k)) (λ k. redone_at gs (length before) (place k) (raw_at d (place k))) (λ k. edits_of gs (length before) g.group (place k)) (number_at g.at) next
-        (λ k. redone_at gs (length before + 1) (place k) (raw_at d (place k))) at' next low (omega arith) (λ k. redone_next before after g gs is (place k) (raw_at d (place k))) frame)
+    (frame_ended known frames pins (λ k. raw_at d (place k)) (λ k. redone_at gs (length before) (place k) (raw_at d (place k))) (λ k. edits_of gs (length before) g.group (place k)) (number_at g.at) next
+    (λ k. redone_at gs (length before + 1) (place k) (raw_at d (place k))) at' next low (omega arith) (λ k. redone_next before after g gs is (place k) (raw_at d (place k))) frame)
 
 -- THE OPEN GROUP IS APPENDED, by a pager that has redone all
 pub over_pushed : (known : ℕ → Bool) (frames : Frames) (pins : ℕ → Bool) (place : Spots) (d : Folder) (gs : List Logged) (g : Logged) (at' next next' : ℕ) → number_at g.at < next' → next ≤ next' → ((k : ℕ) (s : Spot) → place k ≡ Some s → told_by s.name g ≡ None)
@@ -93,5 +95,5 @@ pub over_pushed : (known : ℕ → Bool) (frames : Frames) (pins : ℕ → Bool)
     → FramesOver known (λ k. cond (pins k) (option_map (stamped (number_at g.at)) (frames k)) (frames k)) (λ k. false) place d (gs ++ g ∷ []) (length (gs ++ g ∷ [])) [] at' next'
 over_pushed known frames pins place d gs g at' next next' low le quiet frame =
     ends_empty known (λ k. cond (pins k) (option_map (stamped (number_at g.at)) (frames k)) (frames k)) (λ k. false) place d (gs ++ g ∷ []) (length (gs ++ g ∷ [])) at' next'
-      (frame_ended known frames pins (λ k. raw_at d (place k)) (λ k. redone_at gs (length gs) (place k) (raw_at d (place k))) (λ k. edits_of gs (length gs) g.group (place k)) (number_at g.at) next
-        (λ k. redone_at (gs ++ g ∷ []) (length (gs ++ g ∷ [])) (place k) (raw_at d (place k))) at' next' low le (λ k. redone_push gs g (place k) (raw_at d (place k)) (quiet k)) frame)
+    (frame_ended known frames pins (λ k. raw_at d (place k)) (λ k. redone_at gs (length gs) (place k) (raw_at d (place k))) (λ k. edits_of gs (length gs) g.group (place k)) (number_at g.at) next
+    (λ k. redone_at (gs ++ g ∷ []) (length (gs ++ g ∷ [])) (place k) (raw_at d (place k))) at' next' low le (λ k. redone_push gs g (place k) (raw_at d (place k)) (quiet k)) frame)

@@ -1,8 +1,8 @@
 -- Pending undo records and their chain, one group more and by fronts.
-use Rattle.std.proofs.Common.{◌≡◌, ◌∙◌, ◌&&◌, ℕ, zero, suc, not, Bool, true, false, cond, List, [], ◌∷◌, ◌++◌, length, take, ap, sym, refl, subst, append_assoc, Option, None, Some}
+use Rattle.std.proofs.Common.{◌≡◌, ◌∙◌, ℕ, zero, suc, Bool, true, false, cond, List, [], ◌∷◌, ◌++◌, take, ap, refl, subst, append_assoc, Option, None, Some}
 use Rattle.aria_page.specs.declared.lsn.Lsn.{Lsn}
 use Rattle.aria_record.specs.Logged.{Logged}
-use Rattle.aria_recovery.specs.Pending.{link_of, pended, pending_from, pending_of, is_linked, fails, unchained_from, unchained, Chained}
+use Rattle.aria_recovery.specs.Pending.{link_of, pended, pending_from, pending_of, fails, unchained_from, unchained, Chained}
 
 pending_on : (places : List ℕ) (gs hs : List Logged) → pending_from places (gs ++ hs) ≡ pending_from (pending_from places gs) hs
 pending_on places [] hs = refl
@@ -23,6 +23,7 @@ unchained_on checkpoint places (g ∷ gs) hs = by (fails checkpoint places g) (u
   where
     next : List ℕ
     next = pended g.at (link_of g.group) places
+
     by : (b : Bool) → unchained_from checkpoint next (gs ++ hs) ≡ first_failure (unchained_from checkpoint next gs) (unchained_from checkpoint (pending_from next gs) hs)
         → cond b (Some g.at) (unchained_from checkpoint next (gs ++ hs)) ≡ first_failure (cond b (Some g.at) (unchained_from checkpoint next gs)) (unchained_from checkpoint (pending_from next gs) hs)
     by true rest = refl
@@ -44,6 +45,7 @@ chained_front_from checkpoint places (g ∷ gs) (suc n) chain = by (fails checkp
   where
     next : List ℕ
     next = pended g.at (link_of g.group) places
+
     by : (b : Bool) → cond b (Some g.at) (unchained_from checkpoint next gs) ≡ None → (unchained_from checkpoint next gs ≡ None → unchained_from checkpoint next (take n gs) ≡ None) → cond b (Some g.at) (unchained_from checkpoint next (take n gs)) ≡ None
     by true broken rest = absurd (cc)
     by false whole rest = rest whole
@@ -68,6 +70,7 @@ broken_from checkpoint at before (g ∷ rest) chain is = by (fails checkpoint (p
     number_of : Option ℕ → ℕ
     number_of None = at
     number_of (Some n) = n
+
     by : (b : Bool) → fails checkpoint (pending_of before) g ≡ b → cond b (Some g.at) (unchained_from checkpoint (pended g.at (link_of g.group) (pending_of before)) rest) ≡ Some at
         → (fails checkpoint (pending_of before) g ≡ false → unchained_from checkpoint (pending_of (before ++ g ∷ [])) rest ≡ Some at → Broken checkpoint ((before ++ g ∷ []) ++ rest) at) → Broken checkpoint (before ++ g ∷ rest) at
     by true broken same later = record { before = before; group = g; after = rest; whole = refl; at_is = ap number_of same; chain = chain; broken = broken }

@@ -1,5 +1,5 @@
 -- Pages of many files by keys: a write and a record change the page of one key alone.
-use Rattle.std.proofs.Common.{◌≡◌, ◌==◌, ◌∙◌, ◌&&◌, ℕ, ◌<◌, ◌≤◌, Bool, true, false, cond, List, [], ◌∷◌, ◌++◌, nat_eq, nat_lt, ap, sym, refl, arith, Option, None, Some}
+use Rattle.std.proofs.Common.{◌≡◌, ◌==◌, ◌∙◌, ◌&&◌, ℕ, ◌<◌, ◌≤◌, Bool, true, false, cond, List, [], ◌∷◌, ◌++◌, nat_eq, nat_lt, ap, sym, refl, Option, None, Some}
 use Rattle.std.specs.Option.{option_map}
 use Rattle.std.specs.Cmp.Lexicographic.{bytes_decides}
 use Rattle.std.proofs.lemmas.Bool.{eqb-true, eq-eqb}
@@ -15,7 +15,7 @@ use Rattle.aria_host.proofs.Files.{with_file-other, same_file-true, same_file-re
 use Rattle.aria_record.specs.declared.record.Record.{Record}
 use Rattle.aria_record.specs.declared.record.Record.TheVariants.{Redo}
 use Rattle.aria_record.specs.Logged.{Logged}
-use Rattle.aria_recovery.specs.Redo.{Seen, Content, seen, same_part, edits_in, edits_at, edits_on}
+use Rattle.aria_recovery.specs.Redo.{Content, seen, same_part, edits_in, edits_at, edits_on}
 use Rattle.aria_recovery.specs.Tables.{file}
 use Rattle.aria_recovery.specs.Frames.{Spot, Spots, same_spot, raw_at, base_of, edits_of, AreApart}
 use Rattle.aria_recovery.proofs.Stepping.{part_is}
@@ -35,6 +35,7 @@ module _ (d : Folder) (s : Spot) (page : List ℕ) (pages : List (List ℕ)) (is
     where
       content : Option (List (List ℕ))
       content = option_map (put_page s.page page) (d (file s.name s.part))
+
       by : (b : Bool) → same_file (file s.name s.part) (file k.name k.part) ≡ b → raw_at now (Some k) ≡ cond (same_file (file s.name s.part) (file k.name k.part) && (s.page == k.page)) (seen page) (raw_at d (Some k))
       by false off = ap (λ (f : Content). seen (page_or_zero k.page f)) (with_file-other (file s.name s.part) (file k.name k.part) content d off) ∙ sym (ap (λ (b : Bool). cond (b && (s.page == k.page)) (seen page) (raw_at d (Some k))) off)
       by true on =
@@ -77,10 +78,12 @@ edits_aside s t kind es off = by (same_name t.name s.name) refl (same_part t.par
   where
     page_by : ℕ → Bool → List Edit
     page_by n b = edits_at n (cond b (Some (s.page, es)) None)
+
     at_page : (n : ℕ) → (t.name ≡ s.name) → (t.part ≡ s.part) → (b : Bool) → nat_eq t.page s.page ≡ b → cond b es [] ≡ []
     at_page n name part false other = refl
     at_page n name part true same = absurd (let here : s ≡ t = λ i. record { name = sym name i; part = sym part i; page = sym (eqb-true t.page s.page same) i } in
         let h : true ≡ false = sym (spot_self s) ∙ ap (same_spot s) here ∙ off in (cc))
+
     by : (b : Bool) → same_name t.name s.name ≡ b → (c : Bool) → same_part t.part s.part ≡ c → edits_at t.page (edits_in t.name t.part (Redo kind s.name s.part s.page es)) ≡ []
     by false name c part = ap (λ (b : Bool). page_by t.page (b && same_part t.part s.part)) name
     by true name false part = ap (λ (b : Bool). page_by t.page (b && same_part t.part s.part)) name ∙ ap (page_by t.page) part

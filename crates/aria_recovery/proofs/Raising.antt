@@ -1,11 +1,9 @@
 -- No page comes ahead of the log.
 use Rattle.std.proofs.Common.{◌≡◌, ◌==◌, ◌∙◌, ◌⊎◌, ℕ, ◌≤◌, Bool, true, false, cond, List, ap, sym, refl, subst, arith, None, Some, inl, inr}
-use Rattle.std.specs.Prelude.{IsTrue}
 use Rattle.std.specs.Option.{option_map}
 use Rattle.aria_page.specs.Page.{zero_page}
 use Rattle.aria_page.specs.declared.place.Part.{Part}
-use Rattle.aria_page.specs.declared.place.Part.TheVariants.{Keys, Rows}
-use Rattle.aria_host.specs.Folder.{Folder, put_page, with_file, is_log, same_file}
+use Rattle.aria_host.specs.Folder.{Folder, put_page, with_file, same_file}
 use Rattle.aria_host.specs.Seen.{page_or_zero}
 use Rattle.aria_host.specs.Steps.{MayMake, MayWrite}
 use Rattle.aria_host.proofs.Files.{with_file-other, same_file-true, get_or-put_page}
@@ -66,6 +64,7 @@ raises_write bound name p n page d c below (inr (inl same)) = subst (Raises boun
       where
         now : seen (page_or_zero k (option_map (put_page n page) (d (file name p)))) ≡ seen (cond (n == k) page (page_or_zero k (Some pages)))
         now = ap (λ (f : Content). seen (page_or_zero k (option_map (put_page n page) f))) is ∙ ap seen (get_or-put_page n k page pages)
+
         at : (b : Bool) → (n == k) ≡ b → (seen (page_or_zero k (option_map (put_page n page) (d (file name p)))) ≡ page_of d name p k) ⊎ IsBelow bound (seen (page_or_zero k (option_map (put_page n page) (d (file name p)))))
         at true on = inr (subst (IsBelow bound) (sym (now ∙ ap (λ (b : Bool). seen (cond b page (page_or_zero k (Some pages)))) on)) below)
         at false off = inl (now ∙ ap (λ (b : Bool). seen (cond b page (page_or_zero k (Some pages)))) off ∙ sym (ap (λ (f : Content). seen (page_or_zero k f)) is))

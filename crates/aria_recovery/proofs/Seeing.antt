@@ -1,5 +1,5 @@
 -- What redo sees of a page.
-use Rattle.std.proofs.Common.{◌≡◌, ◌==◌, ◌∙◌, ◌||◌, ◌⊎◌, ℕ, Bool, true, false, cond, List, drop, ap, sym, refl, subst, Option, None, Some, inl, inr}
+use Rattle.std.proofs.Common.{◌≡◌, ◌==◌, ◌∙◌, ◌||◌, ℕ, Bool, true, false, cond, List, drop, ap, refl, Option, None, Some, inl, inr}
 use Rattle.std.specs.Option.{option_map_or}
 use Rattle.std.specs.Cmp.Lexicographic.{pointwise, bytes_decides}
 use Rattle.std.proofs.lemmas.Bool.{eqb-true, eq-eqb}
@@ -11,7 +11,7 @@ use Rattle.aria_page.specs.declared.lsn.Lsn.{Lsn}
 use Rattle.aria_page.specs.declared.place.Part.{Part}
 use Rattle.aria_page.specs.declared.place.Part.TheVariants.{Keys, Rows}
 use Rattle.aria_page.proofs.Pages.{page_lsn-sealed, page_body-sealed}
-use Rattle.aria_value.specs.Header.{new_page, first_index_page, first_data_page}
+use Rattle.aria_value.specs.Header.{new_page}
 use Rattle.aria_value.specs.Reading.{read_definition}
 use Rattle.aria_value.specs.declared.definition.Definition.{Definition}
 use Rattle.aria_recovery.specs.Redo.{Seen, is_sound, page_number, seen}

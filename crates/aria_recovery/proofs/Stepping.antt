@@ -59,9 +59,11 @@ one_file name life p d content there alike = table_alike name life d (with_file 
   where
     now : Folder
     now = with_file (file name p) content d
+
     by_there : (b : Bool) → same_part p Keys ≡ b → is_there life.last (d (file name Keys)) ≡ is_there life.last (with_file (file name p) content d (file name Keys))
     by_there true is = subst (λ (q : Part). is_there life.last (d (file name q)) ≡ is_there life.last (with_file (file name p) content d (file name q))) (part_is p Keys is) (there ∙ ap (is_there life.last) (sym (with_file-same (file name p) content d)))
     by_there false is = ap (is_there life.last) (sym (with_file-other (file name p) (file name Keys) content d (apart_part name p Keys is)))
+
     by_file : (part : Part) (b : Bool) → same_part p part ≡ b → file_of name part life.since (begun part life.last (d (file name part))) ≡ file_of name part life.since (begun part life.last (with_file (file name p) content d (file name part)))
     by_file part true is = subst (λ (q : Part). file_of name q life.since (begun q life.last (d (file name q))) ≡ file_of name q life.since (begun q life.last (with_file (file name p) content d (file name q)))) (part_is p part is)
         (alike ∙ ap (λ (f : Content). file_of name p life.since (begun p life.last f)) (sym (with_file-same (file name p) content d)))
@@ -82,6 +84,7 @@ removed_none name gs p d none = ap (λ (t : Bool). cond t (Some (record { file =
     was : (T : Table) (b : Bool) → cond b (Some T) None ≡ None → b ≡ false
     was T true is = absurd (cc)
     was T false is = refl
+
     by : (q : Part) (last : Option (Option Maker)) → is_there last (d (file name Keys)) ≡ false → is_there last (with_file (file name q) None d (file name Keys)) ≡ false
     by q (Some None) is = refl
     by q (Some (Some m)) is = is

@@ -6,7 +6,6 @@ use Rattle.aria_page.specs.Page.{page_lsn}
 use Rattle.aria_page.specs.declared.lsn.Lsn.{Lsn}
 use Rattle.aria_page.specs.declared.edit.Edit.TheVariants.{Set}
 use Rattle.aria_page.specs.declared.group.RedoKind.TheVariants as kinds
-use Rattle.aria_page.specs.declared.place.Part.{Part}
 use Rattle.aria_page.specs.declared.place.Part.TheVariants.{Rows}
 use Rattle.aria_host.specs.Folder.{Folder}
 use Rattle.aria_host.specs.Folder.{with_file, with_page, put_page}
@@ -28,8 +27,10 @@ page_at n = 0 ∷ 0 ∷ 0 ∷ 0 ∷ 0 ∷ 0 ∷ 0 ∷ 0 ∷ 0 ∷ 0 ∷ n ∷ []
 -- a group at place n has the offset 16 + n in the first file of the log
 abbrev create : ℕ → Logged
 create n = record { at = n; group = CreateTable t false [] 1 ∷ [] }
+
 abbrev drop : ℕ → Logged
 drop n = record { at = n; group = DropTable t ∷ [] }
+
 abbrev edit : ℕ → Logged
 edit n = record { at = n; group = Redo kinds.Index t Rows 3 (Set 0 (7 ∷ []) ∷ []) ∷ [] }
 
@@ -90,8 +91,10 @@ begins = record { file = 0; offset = 0 }
 -- an undo record at place n, behind the one at that log sequence number
 abbrev undo : ℕ → Lsn → Logged
 undo n prev = record { at = n; group = UndoKeyInsert t prev 0 0 [] ∷ [] }
+
 abbrev clear : ℕ → Lsn → Lsn → Logged
 clear n undone next = record { at = n; group = ClrEnd t undone next ∷ [] }
+
 abbrev commit : ℕ → Logged
 commit n = record { at = n; group = Commit ∷ [] }
 

@@ -1,5 +1,5 @@
 -- A page of a table is written.
-use Rattle.std.proofs.Common.{◌≡◌, ◌==◌, ◌∙◌, ℕ, zero, suc, ◌-◌, ◌<◌, ◌≤◌, Bool, true, false, cond, List, [], ◌∷◌, ◌++◌, length, replicate, max, nat_le, ap, sym, refl, subst, arith, Option, None, Some}
+use Rattle.std.proofs.Common.{◌≡◌, ◌==◌, ◌∙◌, ℕ, zero, suc, ◌-◌, ◌<◌, ◌≤◌, Bool, true, false, cond, List, [], ◌∷◌, ◌++◌, length, replicate, max, ap, sym, refl, subst, arith, Option, None, Some}
 use Rattle.std.specs.Option.{option_map_or}
 use Rattle.std.proofs.lemmas.Bool.{eqb-true}
 use Rattle.aria_page.specs.declared.lsn.Lsn.{Lsn}
@@ -11,7 +11,7 @@ use Rattle.aria_host.specs.Folder.{Folder, put_page, with_file}
 use Rattle.aria_host.specs.Seen.{page_or_zero}
 use Rattle.aria_host.proofs.Files.{length-put_page, get_or-put_page}
 use Rattle.aria_record.specs.Logged.{Logged}
-use Rattle.aria_recovery.specs.Redo.{Seen, Content, redo, page_seen, page_number, seen, reach}
+use Rattle.aria_recovery.specs.Redo.{Content, redo, page_seen, page_number, seen, reach}
 use Rattle.aria_recovery.specs.Tables.{Maker, life_of, is_from, begun, file, File, Table, file_of, is_there, tables_of, IsCurrent, AreCurrent, made_page, page_in, count_in}
 use Rattle.aria_recovery.proofs.Stepping.{one_file}
 use Rattle.aria_recovery.proofs.Comparing.{le_true}
@@ -77,10 +77,13 @@ module _ (name : List ℕ) (gs : List Logged) (p : Part) (d : Folder) (pages : L
     where
       counted : max (length pages) (reach name p since) ≡ max (length (put_page n page pages)) (reach name p since)
       counted = omega (arith, length-put_page n page pages, subst (λ (k : ℕ). n < k) count_is within)
+
       steady : redo name p n since (page_seen pages n) ≡ redo name p n since (seen page)
       steady = sym (page_is n) ∙ sym made
+
       by : (k : ℕ) (b : Bool) → (b ≡ true → n ≡ k) → redo name p k since (page_seen pages k) ≡ redo name p k since (cond b (seen page) (page_seen pages k))
       by k true same = subst (λ (j : ℕ). redo name p j since (page_seen pages j) ≡ redo name p j since (seen page)) (same refl) steady
       by k false same = refl
+
       at : (k : ℕ) → redo name p k since (page_seen pages k) ≡ redo name p k since (page_seen (put_page n page pages) k)
       at k = by k (n == k) (λ t. eqb-true n k t) ∙ ap (redo name p k since) (sym (seen_put n k page pages))

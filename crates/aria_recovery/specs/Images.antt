@@ -6,7 +6,7 @@ use Rattle.aria_host.specs.Seen.{page_or_zero}
 use Rattle.aria_host.specs.State.{State, LeavesOnly}
 use Rattle.aria_record.specs.Logged.{Logged}
 use Rattle.aria_recovery.specs.Redo.{Seen, seen}
-use Rattle.aria_recovery.specs.Tables.{Maker, file, Agrees, AreCurrent}
+use Rattle.aria_recovery.specs.Tables.{file, Agrees, AreCurrent}
 
 -- a folder that a crash may leave, where the folder reads as d: it comes to the same tables, and the files of open tables are current
 pub record IsImage (opened : List ℕ → Bool) (groups : List Logged) (forced : ℕ) (d c : Folder) : Type 0 where

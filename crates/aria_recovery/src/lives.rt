@@ -75,7 +75,15 @@ fn note_record(
             page,
             edits,
             ..
-        } => note(alloc, lives, at, *table, *part, *page, has_edits(edits.as_slice())),
+        } => note(
+            alloc,
+            lives,
+            at,
+            *table,
+            *part,
+            *page,
+            has_edits(edits.as_slice()),
+        ),
         _ => Ok(()),
     }
 }

@@ -1,4 +1,4 @@
-use Rattle.std.proofs.Common.{◌≡◌, ◌∙◌}
+use Rattle.std.proofs.Common.{◌∙◌}
 use Rattle.aria_recovery.proofs.Chaining.{link_last}
 use Rattle.aria_recovery.proofs.link.link_of.Goals as goal
 

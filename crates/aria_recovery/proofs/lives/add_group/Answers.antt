@@ -1,4 +1,4 @@
-use Rattle.std.proofs.Common.{◌≡◌, subst, OnOk}
+use Rattle.std.proofs.Common.{subst}
 use Rattle.aria_page.specs.declared.lsn.Lsn.{Lsn}
 use Rattle.aria_record.specs.Logged.{Logged}
 use Rattle.aria_recovery.specs.Noted.{NotesAll, SettlesGroup}
@@ -10,6 +10,6 @@ pub returns : goal.returns
 returns c gs place has at_is =
     let g : Logged = record { at = place; group = c.args.records.now } in
     when_ok c.settle.result c.settle.ensures (λ settled.
-      lives_push c.args.lives.now c.note_all.new.lives c.settle.new.lives gs g has
-        (subst (λ (l : Lsn). NotesAll l c.args.records.now c.args.lives.now c.note_all.new.lives) at_is c.in_ok-note_all.ensures)
-        (subst (λ (l : Lsn). SettlesGroup l c.args.records.now c.note_all.new.lives c.settle.new.lives) at_is settled))
+    lives_push c.args.lives.now c.note_all.new.lives c.settle.new.lives gs g has
+    (subst (λ (l : Lsn). NotesAll l c.args.records.now c.args.lives.now c.note_all.new.lives) at_is c.in_ok-note_all.ensures)
+    (subst (λ (l : Lsn). SettlesGroup l c.args.records.now c.note_all.new.lives c.settle.new.lives) at_is settled))

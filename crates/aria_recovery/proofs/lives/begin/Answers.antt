@@ -1,4 +1,4 @@
-use Rattle.std.proofs.Common.{◌≡◌, None, Some, Option}
+use Rattle.std.proofs.Common.{None, Some, Option}
 use Rattle.aria_recovery.specs.Noted.{edit_at, reach_at, told_at, file_group_at}
 use Rattle.aria_recovery.specs.declared.life.Life.{Life}
 use Rattle.aria_recovery.proofs.Noting.{put_read, put_names}

@@ -1,4 +1,4 @@
-use Rattle.std.proofs.Common.{◌≡◌, ◌∙◌}
+use Rattle.std.proofs.Common.{◌∙◌}
 use Rattle.aria_recovery.proofs.Noting.{puts, put_edits, put_reach, put_told, put_file_group, put_names}
 use Rattle.aria_recovery.proofs.lives.note.Goals as goal
 

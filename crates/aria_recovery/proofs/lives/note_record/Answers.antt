@@ -1,7 +1,3 @@
-use Rattle.std.proofs.Common.{◌≡◌, ap, OnOk}
-use Rattle.aria_record.specs.declared.record.Record.{Record}
-use Rattle.aria_recovery.specs.Redo.{is_some_edit}
-use Rattle.aria_recovery.specs.Noted.{Notes}
 use Rattle.aria_recovery.proofs.Noting.{all_five, notes_redo}
 use Rattle.aria_recovery.proofs.lives.note_record.Goals as goal
 

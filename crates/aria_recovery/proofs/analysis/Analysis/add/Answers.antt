@@ -1,7 +1,5 @@
-use Rattle.std.proofs.Common.{◌≡◌, ◌∙◌, ◌∷◌, [], ◌++◌, ap, subst, OnOk, List}
+use Rattle.std.proofs.Common.{◌∙◌, ◌∷◌, [], ◌++◌, ap, subst, List}
 use Rattle.aria_record.specs.declared.record.Record.{Record}
-use Rattle.aria_record.specs.Logged.{Logged}
-use Rattle.aria_recovery.specs.Analysed.{HasChain}
 use Rattle.aria_recovery.specs.Noted.{HasLives}
 use Rattle.aria_recovery.specs.Pending.{link_of}
 use Rattle.aria_recovery.proofs.Noting.{when_ok}
