@@ -170,9 +170,10 @@ page() {
     printf "$2" >> "$1"
     truncate -s %8192 "$1"
 }
+control='ge\x011ARIAOWN1\0\0\x02\0\0\x20\x10\0\0\x01\0\0\0\x10'
 commit='\xea\xa9\xcb\x6d\0\0\x01\0\0\0\0\x0a\x01\0\0\x0a\0\0\0\x06\x01\x0f'
 fresh
-page folder/aria_log_control 'ge\x011ARIAOWN1\0\0\x02\0\0\x20\x10\0\0\x01\0\0\0\x10'
+page folder/aria_log_control "$control"
 page "$log" "$commit"
 reads_log 'the log of a commit' 0 '' $'(1,0x10) COMMIT\n' $'groups 1 incomplete 0\n'
 (cd folder && exec ../aria read_log -d) < /dev/null > /dev/full 2> error
@@ -213,18 +214,6 @@ is_status 'standard output is closed' 7 $?
 is_error 'standard output is closed' ''
 has_rows 'an insert that could not be told' 1 1
 
-# The log doesn't come to stand in the place of a stream that is closed.
-cp "$log" whole
-(cd folder && exec ../aria run) <&- > told 2> error
-is_status 'standard input is closed, with a log' 6 $?
-(cd folder && exec ../aria run) < more.aria >&- 2>&-
-is_status 'both outputs are closed' 7 $?
-(cd folder && exec ../aria run) < "$room" > told 2>&-
-is_status 'standard error is closed' 6 $?
-(cd folder && exec ../aria run) <&- >&- 2>&-
-is_status 'all streams are closed' 6 $?
-cmp "$log" whole > difference 2>&1 || fail "streams that are closed: $(cat difference)"
-
 # input that is no text: each line that isn't blank is refused, and leaves nothing
 python3 -c '
 import random, sys
@@ -246,15 +235,6 @@ tells 'no text' wanted
 } > long.aria
 runs 'a line of 2,000,000 bytes' 1 '' long.aria run
 tells_text 'a line of 2,000,000 bytes' $'ok\nno line too long\nok 0\n'
-{
-    printf '%1048576s\n' ''
-    printf '%1048577s\n' ''
-    printf '%-1048576s\n' "${create%$'\n'}"
-    printf '%-1048577s\n' 'insert t (1,7)'
-} > limit.aria
-runs 'lines as long as may be and longer' 1 '' limit.aria run
-tells_text 'lines as long as may be and longer' $'no line too long\nok\nno line too long\n'
-has_rows 'a line as long as may be' 1 0
 
 # many rows
 {
@@ -485,16 +465,6 @@ for file in aria_log_control aria_log.00000000 aria_log.00000002 aria_log.167772
         stays "$file beside $base" 5 "aria: not ours $file"$'\n'
     done
 done
-: > folder/x.MAI
-mkdir folder/a.TMD
-ln -s nowhere folder/aria_log_control
-truncate -s -8200 "$log"
-printf X | dd of="$log" bs=1 seek=4000 conv=notrunc status=none
-stays 'the first of the files' 5 $'aria: not ours _1.TMD\n'
-rm folder/_1.TMD
-stays 'a folder as another file' 5 $'aria: not ours a.TMD\n'
-rmdir folder/a.TMD
-stays 'a link as another file' 5 $'aria: not ours aria_log_control\n'
 rm -rf folder
 cp -r sound folder
 for file in aria_log aria_log.1 aria_log.16777216 aria_log.000000001 x.mai .MAI 1.MAI x.MYD x.MAI.old $'\xff.MAI' \
@@ -503,26 +473,6 @@ for file in aria_log aria_log.1 aria_log.16777216 aria_log.000000001 x.mai .MAI 
 done
 has_rows 'files that are left alone' 1 3
 [[ $(cat folder/*[!1] | sort -u) = other ]] || fail 'files that are left alone: they have changed'
-
-# what stands in the place of the log
-{
-    cat sound/aria_log.00000001
-} > elsewhere
-fresh
-ln -s "$room/elsewhere" "$log"
-cp elsewhere whole
-stays 'a link in the place of the log' 4 "$disk_fault"
-cmp -s elsewhere whole || fail 'a link in the place of the log: it was followed'
-fresh
-ln -s "$room/nowhere" "$log"
-stays 'a link to nothing' 4 "$disk_fault"
-[[ ! -e nowhere ]] || fail 'a link to nothing: it was followed'
-fresh
-mkdir "$log"
-stays 'a folder in the place of the log' 4 "$disk_fault"
-fresh
-mkfifo "$log"
-stays 'a pipe in the place of the log' 4 "$disk_fault"
 
 # A log of more than 2^31 pages, where a file may be so long.
 fresh
@@ -608,6 +558,13 @@ for limit in 1 4 7; do
     tells_text "a limit of $limit KiB" ''
     goes_on "after a limit of $limit KiB" 0 '' create.aria run
     tells_text "after a limit of $limit KiB" $'ok\n'
+done
+
+# Faults that were found once, a script each: its first line says what went wrong, and it begins in an empty folder.
+for fault in "$top"/tests/faults/*.sh; do
+    fresh
+    # shellcheck source=/dev/null
+    source "$fault"
 done
 
 # Kills. Each run goes on with the rows that the one before left: none that was told is missing.
