@@ -5,7 +5,8 @@ use Rattle.std.specs.Map.{update}
 use Rattle.std.proofs.lemmas.Bool.{eqb-true, eq-eqb}
 use Rattle.aria_page.specs.declared.edit.Edit.{Edit}
 use Rattle.aria_recovery.specs.Redo.{Seen, is_some_edit, stepped}
-use Rattle.aria_recovery.specs.Frames.{Held, Frames, as_seen, is_dirty, edited_held, stamped, cleaned, PageOn, FrameOn}
+use Rattle.aria_cache.specs.Frames.{Held, edited_held, stamped, cleaned}
+use Rattle.aria_recovery.specs.Frames.{Frames, as_seen, is_dirty, PageOn, FrameOn}
 use Rattle.aria_recovery.proofs.Holding.{page_none, page_later, page_begun, page_loaded, page_washed, page_taken, page_edited, page_passed, page_ended, page_free, is_changed}
 
 -- the same page by equal parts

@@ -4,7 +4,8 @@ use Rattle.std.specs.Option.{option_map}
 use Rattle.aria_page.specs.Edit.{all_edited, edited}
 use Rattle.aria_page.specs.declared.edit.Edit.{Edit}
 use Rattle.aria_recovery.specs.Redo.{Seen, is_some_edit, is_before, stepped, topped}
-use Rattle.aria_recovery.specs.Frames.{Held, as_seen, dirty_of, edited_held, stamped, cleaned, PageOn}
+use Rattle.aria_cache.specs.Frames.{Held, edited_held, stamped, cleaned}
+use Rattle.aria_recovery.specs.Frames.{as_seen, dirty_of, PageOn}
 use Rattle.aria_recovery.proofs.Comparing.{lt_true, lt_false}
 
 pub all_edited_append : (es fs : List Edit) (body : List ℕ) → all_edited (es ++ fs) body ≡ all_edited fs (all_edited es body)

@@ -10,7 +10,8 @@ use Rattle.aria_record.specs.declared.record.Record.TheVariants.{Redo}
 use Rattle.aria_record.specs.Logged.{Logged}
 use Rattle.aria_recovery.specs.Redo.{Seen, number_at, seen, is_some_edit}
 use Rattle.aria_recovery.specs.Tables.{file, told_by}
-use Rattle.aria_recovery.specs.Frames.{Held, Frames, Spot, Spots, as_seen, edited_held, stamped, cleaned, raw_at, redone_at, edits_of, base_of, AreApart, FrameOn, FramesOver}
+use Rattle.aria_cache.specs.Frames.{Held, edited_held, stamped, cleaned}
+use Rattle.aria_recovery.specs.Frames.{Frames, Spot, Spots, as_seen, raw_at, redone_at, edits_of, base_of, AreApart, FrameOn, FramesOver}
 use Rattle.aria_recovery.proofs.Frames.{frame_none, frame_alike, frame_washed, frame_free, frame_edited, frame_passed, frame_ended, frame_begun}
 use Rattle.aria_recovery.proofs.Behind.{redone_zero, redone_steady, redone_next, redone_push, edits_begin}
 use Rattle.aria_recovery.proofs.Placing.{raw_here, raw_others, edits_more, edits_apart}

@@ -5,17 +5,12 @@ use Rattle.aria_page.specs.Edit.{all_edited}
 use Rattle.aria_page.specs.declared.edit.Edit.{Edit}
 use Rattle.aria_page.specs.declared.place.Part.{Part}
 use Rattle.aria_host.specs.Folder.{Folder, same_file}
+use Rattle.aria_cache.specs.Frames.{Held}
 use Rattle.aria_record.specs.declared.record.Record.{Record}
 use Rattle.aria_record.specs.Logged.{Logged}
 use Rattle.aria_recovery.specs.Redo.{Seen, edits_on, is_some_edit, is_before, topped, redo}
 use Rattle.aria_recovery.specs.Tables.{file, life_of}
 use Rattle.aria_recovery.specs.Images.{page_of}
-
--- A page that is held: the number of its log sequence number, its body, and whether the file may have another.
-pub record Held : Type 0 where
-  pub lsn : ℕ
-  pub body : List ℕ
-  pub dirty : Bool
 
 abbrev pub Frames : Type 0
 Frames = ℕ → Option Held
@@ -28,16 +23,6 @@ dirty_of frame = option_map_or (λ h. h.dirty) frame false
 
 abbrev pub is_dirty : Frames → ℕ → Bool
 is_dirty frames k = dirty_of (frames k)
-
--- a page after edits, one that ends a group, and one that the file has as it is held
-abbrev pub edited_held : List Edit → Held → Held
-edited_held edits h = record { lsn = h.lsn; body = all_edited edits h.body; dirty = true }
-
-abbrev pub stamped : ℕ → Held → Held
-stamped lsn h = record { lsn = lsn; body = h.body; dirty = h.dirty }
-
-abbrev pub cleaned : Held → Held
-cleaned h = record { lsn = h.lsn; body = h.body; dirty = false }
 
 -- What is held of one page: raw is what its file has, made what groups make of that, and edits those of the open group,
 -- which will have the number `at`. Pages of known keys alone are held, and each stands before `next`.
