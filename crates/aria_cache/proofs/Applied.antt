@@ -1,5 +1,5 @@
 -- An edit of the log, made in a page.
-use Rattle.std.proofs.Common.{◌≡◌, ◌∙◌, ◌≤◌, ℕ, List, length, ap, arith}
+use Rattle.std.proofs.Common.{◌≡◌, ◌∙◌, ℕ, List, length, ap, arith}
 use Rattle.aria_page.specs.Page.{page_body, with_body}
 use Rattle.aria_page.proofs.Edits.{page_body-with_body}
 

@@ -1,12 +1,12 @@
 -- Groups of edits, as what they make of all pages.
-use Rattle.std.proofs.Common.{◌≡◌, ◌∙◌, ℕ, List, [], ◌∷◌, ◌++◌, refl, sym, ap}
+use Rattle.std.proofs.Common.{◌≡◌, ◌∙◌, ℕ, List, [], ◌∷◌, ◌++◌, refl, sym}
 use Rattle.aria_page.specs.declared.group.Last.{Last}
 use Rattle.aria_page.specs.declared.group.Last.TheVariants.{RowInsert, RowDelete, KeyInsert, KeyDelete, Clr}
 use Rattle.aria_page.specs.declared.lsn.Lsn.{Lsn}
-use Rattle.aria_record.specs.declared.record.Record.{Record}
 use Rattle.aria_record.specs.Logged.{Logged}
 use Rattle.aria_cache.specs.PageState.{PageState, Bodies, record_applied, edits_applied, applied}
-use Rattle.aria_cache.specs.Ending.{last_record, ended_group, newest}
+use Rattle.aria_cache.specs.Ending.{ended_group, newest}
+use Rattle.aria_record.specs.Writing.{last_record}
 use Rattle.aria_cache.proofs.Growing.{edits_applied-append}
 
 -- groups that come behind others are applied last

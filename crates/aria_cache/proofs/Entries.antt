@@ -1,12 +1,11 @@
 -- What the changes of an lru cache are to the map that its entries are.
-use Rattle.std.proofs.Common.{◌≡◌, ◌∙◌, ◌+◌, ◌-◌, ◌<◌, ◌≤◌, ℕ, suc, Bool, true, false, cond, List, [], ◌∷◌, length, take, Option, None, Some, is_some, nat_eq, refl, sym, ap, subst, arith, inl, inr}
+use Rattle.std.proofs.Common.{◌≡◌, ◌∙◌, ◌+◌, ◌-◌, ◌<◌, ℕ, Bool, true, false, cond, List, [], ◌∷◌, length, take, Option, None, Some, is_some, nat_eq, refl, sym, ap, subst, arith, inl, inr}
 use Rattle.std.specs.Prelude.{option_map, slice_get, IsTrue, IsSome}
 use Rattle.std.specs.Option.{option_map_or}
 use Rattle.std.specs.Map.{lookup, lookup_entry, remove_entry, set_value, keys_of, update}
 use Rattle.std.specs.List.{IsDistinct}
-use Rattle.std.specs.Cmp.{IsEquivalence}
 use Rattle.std.proofs.lemmas.Cmp.{nat_eq_equiv}
-use Rattle.std.proofs.lemmas.Bool.{cases_Bool, eqb-true, eq-eqb}
+use Rattle.std.proofs.lemmas.Bool.{cases_Bool, eqb-true}
 use Rattle.std.proofs.lemmas.List.{take_all}
 use Rattle.std.proofs.lemmas.Map.{lookup-remove_entry, lookup-set_value, length-set_value}
 use Rattle.lru.proofs.Pairs.{lookup-lookup_entry}

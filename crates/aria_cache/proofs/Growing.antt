@@ -1,6 +1,5 @@
 -- Numbers of pages that never fall, and pages that stay but in one file.
 use Rattle.std.proofs.Common.{◌≡◌, ℕ, ◌≤◌, max, Bool, true, false, cond, arith, ap, subst, sym, ◌∙◌, List, [], ◌∷◌, ◌++◌, refl}
-use Rattle.std.specs.Prelude.{IsTrue}
 use Rattle.aria_page.specs.declared.edit.Edit.{Edit}
 use Rattle.aria_page.specs.declared.group.RedoKind.{RedoKind}
 use Rattle.aria_page.specs.declared.place.Part.{Part}

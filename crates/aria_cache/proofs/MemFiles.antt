@@ -1,5 +1,5 @@
 -- Files in memory, by the names of their tables.
-use Rattle.std.proofs.Common.{◌≡◌, ◌∙◌, ◌==◌, ◌&&◌, ℕ, ◌+◌, max, Bool, true, false, cond, List, [], ◌∷◌, Option, None, Some, is_some, refl, sym, ap, subst, arith}
+use Rattle.std.proofs.Common.{◌≡◌, ◌∙◌, ◌==◌, ◌&&◌, ℕ, ◌+◌, max, Bool, true, false, cond, List, Option, None, Some, refl, sym, ap, arith}
 use Rattle.std.specs.Prelude.{unwrap_or}
 use Rattle.std.specs.Map.{lookup}
 use Rattle.std.specs.Cmp.{unsigned_ties}
@@ -8,7 +8,6 @@ use Rattle.std.specs.Ordering.{nat_cmp}
 use Rattle.std.specs.BTreeMap.{is_at}
 use Rattle.aria_page.specs.declared.edit.Edit.{Edit}
 use Rattle.aria_page.specs.declared.place.Part.{Part}
-use Rattle.aria_page.specs.declared.place.Part.TheVariants as parts
 use Rattle.aria_page.specs.Edit.{all_edited}
 use Rattle.aria_cache.specs.declared.mem_file.MemFile.{MemFile}
 use Rattle.aria_cache.specs.MemFile.{zero_body, blank_body, kept_body, file_body, file_count, EditsFile, SameFile}

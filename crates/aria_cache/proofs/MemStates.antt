@@ -1,5 +1,5 @@
 -- What calls make of pages in memory.
-use Rattle.std.proofs.Common.{◌≡◌, ◌∙◌, ◌==◌, ◌&&◌, inl, inr, ℕ, ◌+◌, ◌≤◌, ◌<◌, ◌^◌, max, Bool, true, false, cond, List, [], ◌∷◌, length, Option, None, Some, refl, sym, ap, subst, arith, All}
+use Rattle.std.proofs.Common.{◌≡◌, ◌∙◌, ◌==◌, ◌&&◌, ℕ, ◌+◌, ◌≤◌, ◌<◌, ◌^◌, max, Bool, true, false, cond, List, [], ◌∷◌, length, Option, None, Some, refl, sym, ap, subst, arith, All}
 use Rattle.std.specs.Option.{option_map}
 use Rattle.std.specs.Prelude.{nat_lt}
 use Rattle.std.specs.Map.{lookup}
@@ -7,7 +7,7 @@ use Rattle.std.specs.BTreeMap.{is_at}
 use Rattle.std.specs.Ordering.{nat_cmp}
 use Rattle.std.specs.Cmp.Lexicographic.{slice_cmp, pointwise}
 use Rattle.std.proofs.lemmas.List.Elements.{All-head, All-tail}
-use Rattle.std.proofs.lemmas.Bool.{cases_Bool, eqb-true, ne_eqb}
+use Rattle.std.proofs.lemmas.Bool.{ne_eqb}
 use Rattle.aria_page.specs.declared.edit.Edit.{Edit}
 use Rattle.aria_page.specs.declared.change.Change.{Change}
 use Rattle.aria_page.specs.declared.place.Part.{Part}
@@ -18,7 +18,6 @@ use Rattle.aria_page.proofs.Edits.{length-edited}
 use Rattle.aria_host.specs.declared.file_name.FileName.{FileName}
 use Rattle.aria_host.specs.declared.file_name.FileName.TheVariants.{Control, Log, Keys, Rows, NewKeys, NewRows}
 use Rattle.aria_host.specs.Folder.{same_file}
-use Rattle.aria_host.proofs.Files.{same_file-refl, same_file-true}
 use Rattle.aria_cache.specs.MemFile.{zero_body, is_map, blank_body, file_body, file_count}
 use Rattle.aria_cache.specs.MemPages.{Files, file_in, EditsIn, SetsIn, SameIn, bodies_in, counts_in, bodies_set, counts_set, AreFiles}
 use Rattle.aria_cache.specs.declared.mem_file.MemFile.{MemFile}

@@ -1,7 +1,6 @@
 -- What each call does to pages.
-use Rattle.std.specs.Prelude.{◌≡◌, ℕ, ◌+◌, ◌*◌, ◌/◌, ◌<◌, ◌≤◌, Bool, true, false, IsTrue, IsSome, None, Some, List, [], ◌∷◌, ◌++◌, length, Ok, Err, IfSome, Result, Option}
+use Rattle.std.specs.Prelude.{◌≡◌, ℕ, ◌+◌, ◌<◌, ◌≤◌, Bool, true, false, IsTrue, IsSome, None, Some, List, [], ◌∷◌, ◌++◌, Ok, Err, IfSome, Result, Option}
 use Rattle.aria_page.specs.declared.edit.Edit.{Edit}
-use Rattle.aria_page.specs.declared.group.Last.{Last}
 use Rattle.aria_page.specs.declared.group.RedoKind.{RedoKind}
 use Rattle.aria_page.specs.declared.lsn.Lsn.{Lsn}
 use Rattle.aria_page.specs.declared.place.Part.{Part}
@@ -11,7 +10,7 @@ use Rattle.aria_host.specs.Folder.{same_file}
 use Rattle.aria_record.specs.declared.record.Record.{Record}
 use Rattle.aria_record.specs.declared.record.Record.TheVariants.{Redo}
 use Rattle.aria_record.specs.Logged.{Logged, lsn_at_place}
-use Rattle.aria_cache.specs.PageState.{PageState, Bodies, table_file, file_of, with_edits, with_count, edits_applied}
+use Rattle.aria_cache.specs.PageState.{PageState, Bodies, file_of, with_edits, edits_applied}
 use Rattle.aria_cache.specs.Ending.{no_lsn}
 
 -- ---- what stays

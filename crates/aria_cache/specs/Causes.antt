@@ -1,12 +1,10 @@
 -- The causes of the faults of pages.
-use Rattle.std.specs.Prelude.{◌≡◌, ⊤, ℕ, ◌+◌, ◌*◌, ◌-◌, ◌^◌, ◌<◌, ◌≤◌, Bool, IsTrue, Option, None, Some, IfSome}
-use Rattle.aria_page.specs.declared.group.Last.{Last}
+use Rattle.std.specs.Prelude.{◌≡◌, ⊤, ℕ, ◌+◌, ◌*◌, ◌-◌, ◌^◌, ◌<◌, ◌≤◌, Bool, IsTrue, Option, None, IfSome}
 use Rattle.aria_host.specs.declared.fault.Fault.{Fault}
 use Rattle.aria_host.specs.declared.fault.Fault.TheVariants.{Memory, Disk, PageDamaged, LogDamaged, LogSpent}
 use Rattle.aria_host.specs.declared.file_name.FileName.{FileName}
 use Rattle.aria_host.specs.Count.{Rose}
 use Rattle.aria_cache.specs.PageState.{PageState}
-use Rattle.aria_cache.specs.Ending.{last_cost}
 
 -- A page is brought into memory: the disk fails, or that page is damaged, or it is ahead of the log.
 abbrev pub OfPage : Bool → Bool → FileName → ℕ → PageState → PageState → Fault → Type 0

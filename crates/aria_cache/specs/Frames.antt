@@ -1,5 +1,5 @@
 -- What frames hold: a map from the numbers of pages.
-use Rattle.std.specs.Prelude.{◌≡◌, ℕ, ◌+◌, ◌*◌, ◌^◌, Bool, true, false, not, nat_eq, if◌then◌else◌, length, List, reverse, map, slice_get, Option}
+use Rattle.std.specs.Prelude.{ℕ, Bool, true, false, not, nat_eq, if◌then◌else◌, length, List, reverse, map, slice_get, Option}
 use Rattle.std.specs.Option.{option_map}
 use Rattle.std.specs.List.{list_any, find}
 use Rattle.std.specs.Map.{lookup}

@@ -1,5 +1,5 @@
 -- A file in memory: what its pages hold.
-use Rattle.std.specs.Prelude.{◌≡◌, ◌==◌, ◌&&◌, if◌then◌else◌, ℕ, ◌+◌, ◌-◌, ◌%◌, max, nat_eq, nat_lt, Bool, false, List, [], ◌∷◌, replicate, Option, None, Some, unwrap_or}
+use Rattle.std.specs.Prelude.{◌≡◌, ◌==◌, ◌&&◌, if◌then◌else◌, ℕ, ◌+◌, ◌-◌, ◌%◌, max, nat_eq, nat_lt, Bool, false, List, ◌∷◌, replicate, Option, None, Some, unwrap_or}
 use Rattle.std.specs.Option.{option_map, option_map_or}
 use Rattle.std.specs.HashMap.{get}
 use Rattle.aria_page.specs.declared.edit.Edit.{Edit}

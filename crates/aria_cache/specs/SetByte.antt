@@ -7,7 +7,8 @@ use Rattle.aria_page.specs.declared.place.Part.{Part}
 use Rattle.aria_record.specs.declared.record.Record.{Record}
 use Rattle.aria_record.specs.declared.record.Record.TheVariants.{Redo}
 use Rattle.aria_cache.specs.PageState.{PageState}
-use Rattle.aria_cache.specs.Ending.{newest, last_record}
+use Rattle.aria_cache.specs.Ending.{newest}
+use Rattle.aria_record.specs.Writing.{last_record}
 
 -- the byte, and the record that ends the group
 abbrev pub byte_group : PageState → ℕ → Part → ℕ → ℕ → ℕ → Last → List Record

@@ -6,7 +6,8 @@ ghost use Rattle.aria_page.specs.declared.page.TheConstants.{BODY_BYTES};
 ghost use Rattle.aria_host.specs.declared.file_name.FileName.{FileName as File};
 ghost use Rattle.aria_record.specs.Logged.{Logged};
 ghost use Rattle.aria_cache.specs.PageState.{PageState, file_of, with_count};
-ghost use Rattle.aria_cache.specs.Ending.{newest, ended_group, pending_after, LastFits, UndoesNewest, edits_cost, last_cost};
+ghost use Rattle.aria_cache.specs.Ending.{newest, ended_group, pending_after, EndFits, UndoesNewest};
+ghost use Rattle.aria_record.specs.Writing.{redo_size, last_size};
 ghost use Rattle.aria_cache.specs.Calls.{SameSlots, SameLog, FewerLate, StaysIn, fault_of, Answers, Loads, Spends, HasRoom, Edits, Begins, Leaves, Stops, Ended};
 ghost use Rattle.aria_cache.specs.Causes.{OfPage, OfLog, HasPagesCause, IsFound};
 
@@ -104,7 +105,7 @@ pub trait Pages {
         ensures edits { IsTrue tells → OnOk result (Edits logged why at.slot at.part at.page (edits_of edits.now) (state self.old) (state self.new)) }
         ensures inside { IsTrue tells → OnOk result (StaysIn logged (file_of (state self.old) at.slot at.part) (state self.old) (state self.new)) }
         ensures counts { OnOk result ((state self.new).counts ≡ with_count (file_of (state self.old) at.slot at.part) (at.page + 1) (state self.old).counts) }
-        ensures spends { Spends 1 (length edits.now) (edits_cost (edits_of edits.now)) (state self.old) (state self.new) }
+        ensures spends { Spends 1 (length edits.now) (redo_size (edits_of edits.now)) (state self.old) (state self.new) }
         ensures answers { Answers (state self.old) (state self.new) (fault_of result) }
         ensures cause { HasPagesCause (OfPage tells logged (file_of (state self.old) at.slot at.part) at.page (state self.old) (state self.new)) (state self.old) (state self.new) (fault_of result) };
 
@@ -114,7 +115,7 @@ pub trait Pages {
         requires stands { stands self.old }
         requires open { IsTrue ((state self.old).is_open slot) }
         requires group { (state self.old).in_group ≡ true }
-        requires fits { IsTrue logged → LastFits last.now }
+        requires fits { IsTrue logged → EndFits last.now }
         requires undoes { IsTrue logged → UndoesNewest last.now (state self.old).pending }
         ensures stands { stands self.new }
         ensures moves { OnErr result (stays self.old self.new) }
@@ -128,9 +129,9 @@ pub trait Pages {
         ensures edits { (state self.new).edits ≡ [] }
         ensures pending { IfOk result (λ lsn. (state self.new).pending ≡ (if logged then pending_after lsn last.now (state self.old).pending else (state self.old).pending)) }
         ensures pending_err { OnErr result ((state self.new).pending ≡ (state self.old).pending) }
-        ensures reach { (state self.new).reach ≤ (state self.old).reach + ((state self.old).bytes + last_cost last.now) / 8176 + 2 }
+        ensures reach { (state self.new).reach ≤ (state self.old).reach + ((state self.old).bytes + last_size last.now) / 8176 + 2 }
         ensures answers { Answers (state self.old) (state self.new) (fault_of result) }
-        ensures cause { HasPagesCause (OfLog logged ((state self.old).bytes + last_cost last.now) (state self.old) (state self.new)) (state self.old) (state self.new) (fault_of result) };
+        ensures cause { HasPagesCause (OfLog logged ((state self.old).bytes + last_size last.now) (state self.old) (state self.new)) (state self.old) (state self.new) (fault_of result) };
 
     /// Leaves a group that has no edit, or after a fault.
     fn leave(&mut self, group: OpenGroup)

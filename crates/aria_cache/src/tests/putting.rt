@@ -4,7 +4,7 @@ ghost use Rattle.aria_page.specs.declared.group.RedoKind.TheVariants.{State};
 ghost use Rattle.aria_record.specs.declared.record.Record.TheVariants.{Redo};
 ghost use Rattle.aria_record.specs.Logged.{Logged};
 ghost use Rattle.aria_cache.specs.PageState.{file_of, with_edits, applied};
-ghost use Rattle.aria_cache.specs.Ending.{ended_group, LastFits, UndoesNewest};
+ghost use Rattle.aria_cache.specs.Ending.{ended_group, EndFits, UndoesNewest};
 ghost use Rattle.aria_cache.specs.SetByte.{byte_group};
 ghost use Rattle.aria_cache.specs.Calls.{fault_of, Answers, Edits, Loads, Spends, HasRoom, SameSlots, SameLog, StaysIn, Grows, Ended};
 
@@ -69,7 +69,7 @@ pub(super) fn set_byte<P: Pages>(
     requires none { (P.state pages.old).in_group ≡ false }
     requires low { at.page < 2 ^ 31 }
     requires place { place < 8181 }
-    requires fits { IsTrue P.logged → LastFits last.now }
+    requires fits { IsTrue P.logged → EndFits last.now }
     requires undoes { IsTrue P.logged → UndoesNewest last.now (P.state pages.old).pending }
     ensures stands { P.stands pages.new }
     ensures moves { OnErr result (P.stays pages.old pages.new) }

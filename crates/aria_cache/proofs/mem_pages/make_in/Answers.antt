@@ -1,7 +1,7 @@
-use Rattle.std.proofs.Common.{◌≡◌, ◌∙◌, sym, ap, refl, true, false, Option, None, Some}
+use Rattle.std.proofs.Common.{◌≡◌, ◌∙◌, sym, refl, false, Option, None, Some}
 use Rattle.std.specs.Prelude.{Ok, Err, OnOk, OnErr, Result}
 use Rattle.std.specs.Option.{is_some}
-use Rattle.aria_cache.specs.MemPages.{file_in, SameIn}
+use Rattle.aria_cache.specs.MemPages.{file_in}
 use Rattle.aria_cache.proofs.MemFiles.{put_empty, same_entries}
 use Rattle.aria_cache.proofs.mem_pages.make_in.Goals as goal
 

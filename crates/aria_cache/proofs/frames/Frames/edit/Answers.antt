@@ -1,8 +1,7 @@
 use Rattle.aria_page.specs.Lsn.{lsn_number}
-use Rattle.std.proofs.Common.{◌≡◌, ap, ℕ, List, refl, true}
+use Rattle.std.proofs.Common.{◌≡◌, ap, ℕ, List, true}
 use Rattle.aria_page.specs.Change.{edits_of}
-use Rattle.aria_cache.specs.Frames.{Held, shown, edited_held}
-use Rattle.aria_cache.specs.declared.frames.Frame.{Frame}
+use Rattle.aria_cache.specs.Frames.{shown, edited_held}
 use Rattle.aria_cache.proofs.Entries.{changed_front, length-set_front}
 use Rattle.aria_cache.proofs.frames.Frames.edit.Goals as goal
 

@@ -1,4 +1,4 @@
-use Rattle.std.proofs.Common.{◌≡◌, ◌+◌, arith, refl, Some, None, Option}
+use Rattle.std.proofs.Common.{◌≡◌, arith, refl, Some, None, Option}
 use Rattle.std.specs.Prelude.{option_map}
 use Rattle.aria_cache.specs.Frames.{shown}
 use Rattle.aria_cache.specs.declared.frames.Frame.{Frame}

@@ -1,5 +1,5 @@
 use Rattle.std.proofs.Common.{◌≡◌, ◌∙◌, sym, Option, Some, None, is_some, refl}
-use Rattle.std.specs.Prelude.{option_map, IsTrue}
+use Rattle.std.specs.Prelude.{option_map}
 use Rattle.aria_cache.specs.Frames.{shown}
 use Rattle.aria_cache.specs.declared.frames.Frame.{Frame}
 use Rattle.aria_cache.proofs.Entries.{removed, length-removed}

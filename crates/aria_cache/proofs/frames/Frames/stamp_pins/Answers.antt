@@ -1,6 +1,5 @@
 use Rattle.aria_page.specs.Lsn.{lsn_number}
-use Rattle.std.proofs.Common.{◌≡◌, ◌∙◌, ◌++◌, ◌∷◌, [], ◌<◌, ap, sym, refl, length, arith, true, false, Bool, ℕ, List, Option}
-use Rattle.std.proofs.lemmas.List.{append-nil}
+use Rattle.std.proofs.Common.{◌≡◌, ◌∙◌, ◌∷◌, [], ◌<◌, ap, sym, refl, length, arith, true, false, ℕ, List, Option}
 use Rattle.aria_cache.specs.Frames.{Held, held, stamp_all}
 use Rattle.aria_cache.proofs.Stamping.{stamp_more}
 use Rattle.aria_cache.proofs.frames.Frames.stamp_pins.Goals as goal

@@ -1,8 +1,7 @@
-use Rattle.std.proofs.Common.{◌≡◌, sym, ap, subst, List, ℕ, refl}
+use Rattle.std.proofs.Common.{refl}
 use Rattle.std.proofs.lemmas.Result.{on_ok_weaker, on_err_weaker}
 use Rattle.aria_page.specs.Change.{edits_of}
-use Rattle.aria_page.specs.declared.place.Part.TheVariants as parts
-use Rattle.aria_cache.specs.MemPages.{mem_name, EditsIn}
+use Rattle.aria_cache.specs.MemPages.{mem_name}
 use Rattle.aria_cache.proofs.MemStates.{keys_bodies, keys_counts, rows_bodies, rows_counts, same_bodies, same_counts, same_in}
 use Rattle.aria_cache.proofs.mem_pages.MemPages.change.Goals as goal
 

@@ -1,9 +1,9 @@
-use Rattle.std.proofs.Common.{◌≡◌, sym, ap, subst, List, ℕ, refl}
+use Rattle.std.proofs.Common.{refl}
 use Rattle.std.specs.Prelude.{Ok, Err, OnOk, OnErr, Result}
 use Rattle.std.proofs.lemmas.Result.{on_ok_weaker, on_err_weaker}
 use Rattle.aria_host.specs.declared.file_name.FileName.TheVariants as files
 use Rattle.aria_page.specs.declared.place.Part.TheVariants as parts
-use Rattle.aria_cache.specs.MemPages.{mem_name, SetsIn, SameIn, AreFiles, bodies_in, counts_in}
+use Rattle.aria_cache.specs.MemPages.{mem_name, bodies_in, counts_in}
 use Rattle.aria_cache.proofs.MemStates.{keys_bodies_set, keys_counts_set, rows_bodies_set, rows_counts_set, same_bodies, same_counts, same_in, files_set, files_same}
 use Rattle.aria_cache.proofs.mem_pages.MemPages.set_count.Goals as goal
 

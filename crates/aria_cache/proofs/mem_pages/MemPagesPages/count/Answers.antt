@@ -1,7 +1,5 @@
-use Rattle.std.proofs.Common.{◌≤◌, ◌^◌, subst, sym, ap, ◌∙◌, ℕ}
+use Rattle.std.proofs.Common.{◌≤◌, ◌^◌, subst, sym, ℕ}
 use Rattle.aria_host.specs.declared.file_name.FileName.TheVariants.{Keys, Rows}
-use Rattle.aria_cache.specs.MemPages.{mem_name, file_in}
-use Rattle.aria_cache.specs.MemFile.{file_count}
 use Rattle.aria_cache.proofs.mem_pages.MemPagesPages.count.Goals as goal
 
 pub returns-in-Keys-clause-most : goal.returns-in-Keys-clause-most
