@@ -1,4 +1,5 @@
-ghost use Rattle.std.specs.Prelude.{◌≡◌, ◌<◌, ◌^◌, false, IsTrue};
+ghost use Rattle.std.specs.Prelude.{◌≡◌, ◌<◌, ◌≤◌, ◌^◌, false, IsTrue, IfOk};
+ghost use Rattle.aria_cache.specs.Causes.{IsFound};
 ghost use Rattle.aria_cache.specs.MemPages.{MemStands};
 
 use super::putting::{byte_at, set_byte};
@@ -76,11 +77,35 @@ fn edits_are_found_again(rt: HostRuntime) -> Result<(), Fail> {
     assert_eq!(rt; read(alloc, &mut pages, keys, 8)?, Some(2));
     assert_eq!(rt; read(alloc, &mut pages, rows, 7)?, Some(3));
     assert_eq!(rt; read(alloc, &mut pages, rows, 8)?, Some(0));
-    assert_eq!(rt; pages.count(3, Part::Keys), 3);
-    assert_eq!(rt; pages.count(3, Part::Rows), 1);
-    assert_eq!(rt; pages.count(4, Part::Keys), 0);
+    assert_eq!(rt; count(&pages, 3, Part::Keys), 3);
+    assert_eq!(rt; count(&pages, 3, Part::Rows), 1);
+    assert_eq!(rt; count(&pages, 4, Part::Keys), 0);
     assert!(rt; pages.file(12, Part::Rows).text(alloc)?.as_slice() == b"m12.MAD".as_slice());
     Ok(())
+}
+
+fn count(pages: &MemPages, slot: u32, part: Part) -> u32
+    requires { MemStands pages.now }
+{
+    pages.count(slot, part)
+}
+
+// Pages in memory, with so many in slot 0's data file.
+fn with_rows(alloc: Global, count: u32) -> Result<MemPages, AllocError>
+    requires { count ≤ 2 ^ 31 }
+    ensures { IfOk result MemStands }
+{
+    let mut pages = MemPages::new(alloc);
+    pages.set_count(alloc, 0, Part::Rows, count)?;
+    Ok(pages)
+}
+
+fn stop(pages: &mut MemPages, why: Fault) -> Fault
+    requires stands { MemStands pages.old }
+    requires found { IsFound why }
+    ensures stands { MemStands pages.new }
+{
+    pages.stop(why)
 }
 
 // The first byte of the body of a page of slot 0's data file.
@@ -99,9 +124,8 @@ fn first_of(alloc: Global, pages: &mut MemPages, number: u32) -> Result<Option<u
 #[test]
 fn pages_that_were_set_are_blank(rt: HostRuntime) -> Result<(), Fail> {
     let alloc = rt.alloc();
-    let mut pages = MemPages::new(alloc);
-    pages.set_count(alloc, 0, Part::Rows, 21_810)?;
-    assert_eq!(rt; pages.count(0, Part::Rows), 21_810);
+    let mut pages = with_rows(alloc, 21_810)?;
+    assert_eq!(rt; count(&pages, 0, Part::Rows), 21_810);
     assert_eq!(rt; first_of(alloc, &mut pages, 0)?, Some(2));
     assert_eq!(rt; first_of(alloc, &mut pages, 1)?, Some(0));
     assert_eq!(rt; first_of(alloc, &mut pages, 21_808)?, Some(0));
@@ -113,19 +137,13 @@ fn pages_that_were_set_are_blank(rt: HostRuntime) -> Result<(), Fail> {
 #[test]
 fn a_fault_that_is_kept_is_answered_again(rt: HostRuntime) -> Result<(), Fail> {
     let alloc = rt.alloc();
-    let mut pages = MemPages::new(alloc);
-    let keys = PageId {
-        slot: 0,
-        part: Part::Keys,
-        page: 0,
-    };
-    pages.set_count(alloc, 0, Part::Keys, 1)?;
-    let file = pages.file(0, Part::Keys);
-    let first = pages.stop(Fault::PageDamaged { file, page: 0 });
-    assert!(rt; matches!(first, Fault::PageDamaged { page: 0, .. }));
-    let second = pages.stop(Fault::Memory(AllocError));
-    assert!(rt; matches!(second, Fault::PageDamaged { page: 0, .. }));
-    let read = read(alloc, &mut pages, keys, 0);
+    let mut pages = with_rows(alloc, 1)?;
+    let file = FileName::Control;
+    let first = stop(&mut pages, Fault::PageDamaged { file, page: 5 });
+    assert!(rt; matches!(first, Fault::PageDamaged { page: 5, .. }));
+    let second = stop(&mut pages, Fault::Memory(AllocError));
+    assert!(rt; matches!(second, Fault::PageDamaged { page: 5, .. }));
+    let read = first_of(alloc, &mut pages, 0);
     assert!(rt; matches!(read, Err(Fault::PageDamaged { .. })));
     Ok(())
 }
