@@ -19,3 +19,6 @@ mod lives;
 
 pub use analysis::Analysis;
 pub use life::Told;
+
+#[cfg(test)]
+mod tests;
