@@ -33,17 +33,17 @@ first-size Node first = omega (arith, length-number 4 first)
 pub whole-size : (w : ℕ) (before : List ℕ) (xs : List Item) → (length (packed w before xs) ≤ length (packed w [] xs)) × (length (packed w [] xs) ≤ length (packed w before xs) + 255)
 whole-size w before xs = (omega (arith, behind-size w before xs), omega (arith, behind-size w before xs, shared-lt before (item_at xs 0).entry))
 
--- before the first place there is a node's first child alone
+-- before the first position there is a node's first child alone
 none-before : (c : Content) → length (item_bytes (left_half c 0)) ≡ length (first_bytes c.kind c.first)
 unfolding item_bytes packed
 none-before c = ap length (append-nil (first_bytes c.kind c.first))
 
--- behind the last place nothing is left
+-- behind the last position nothing is left
 left-end : (w : ℕ) (xs : List Item) (at : ℕ) → length xs ≤ at → left_size w xs at ≡ 0
 unfolding packed
 left-end w xs at h = ap (λ (l : List Item). length (packed w (entry_before xs at) l)) (drop_all at xs h)
 
--- the middle is neither the first place nor the last
+-- the middle is neither the first position nor the last
 middle-some : (c : Content) → AllByRecursion (IsItem (width c.kind)) c.items → 2045 ≤ length (item_bytes c) → IsMiddle c 0 → ⊥
 middle-some c all size is = elim (cases_lt 0 (length c.items)) [
   | inl h ↦ omega (arith, left-least c 0 all is h, none-before c, first-size c.kind c.first)
@@ -67,7 +67,7 @@ unfolding item_bytes
 right-node c at e =
     ap (λ (b : Kind). item_bytes (right_from b c at)) e ∙ ap (λ (b : Kind). first_bytes b (item_at c.items at).to ++ packed (width c.kind) [] (drop (at + 1) c.items)) e
 
--- its size is near to what is left from the place on
+-- its size is near to what is left from the position on
 right-size : (b : Kind) (c : Content) (at : ℕ) → c.kind ≡ b → AllByRecursion (IsItem (width c.kind)) c.items → at < length c.items
     → (length (item_bytes (right_half c at)) ≤ left_size (width c.kind) c.items at + 255) × (left_size (width c.kind) c.items at ≤ length (item_bytes (right_half c at)) + 1004)
 right-size Leaf c at e all h =
@@ -120,7 +120,7 @@ right-content c at key first all h size = by c.kind refl size
         let child : IsFirst Node (item_at c.items at).to = subst (λ (b : Kind). (item_at c.items at).to < 256 ^ width b) e fits in
         record { key = key; first = subst (λ (b : Kind). IsFirst b (item_at c.items at).to) (sym e) child; items = all-drop (IsItem (width c.kind)) (at + 1) c.items all; size = size }
 
--- a page whose packed items begin as another's, up to a place
+-- a page whose packed items begin as another's, up to a position
 pub shortened : (c d : Content) (items behind : List ℕ) (size len first same : ℕ) (new : List ℕ) → IsContent c → IsContent d → d.kind ≡ c.kind → d.key ≡ c.key → d.first ≡ c.first
     → items ≡ packed (width c.kind) [] c.items ++ behind → packed (width d.kind) [] d.items ≡ take size items → size ≤ length items
     → len ≡ length (packed (width c.kind) [] c.items) → first ≡ length (first_bytes c.kind c.first) → same ≡ min size len → new ≡ drop same (take size items)
@@ -172,7 +172,7 @@ rest-pushed w xs at rest x entry all left e same =
       (λ i. packed_item w [] (record { entry = same low i; to = item.to }) ++ behind i) ∙ sym (ap (packed w []) (drop-at xs at low)),
     )
 
--- the place where a walk stops is the middle
+-- the position where a walk stops is the middle
 pub stop-middle : (c : Content) (w at size : ℕ) (rest behind : List ℕ) → w ≡ width c.kind → size ≡ length (item_bytes c) → IsLeft w c.items at rest → Passed w c.items size at → IsLeft w c.items (at + 1) behind → length rest + length behind ≤ size → IsMiddle c at
 stop-middle c w at size rest behind ew es left passed next low =
     let here : length rest ≡ left_size (width c.kind) c.items at = ap length left.is ∙ ap (λ (n : ℕ). left_size n c.items at) ew in
@@ -182,7 +182,7 @@ stop-middle c w at size rest behind ew es left passed next low =
 pub end-middle : (c : Content) (w at size : ℕ) → w ≡ width c.kind → size ≡ length (item_bytes c) → at ≡ length c.items → Passed w c.items size at → IsMiddle c at
 end-middle c w at size ew es end passed = middle-is c at size (omega arith) es (subst (λ (n : ℕ). Passed n c.items size at) ew passed) (λ lt. absurd (omega arith))
 
--- a place is passed where the next one is nearer
+-- a position is passed where the next one is nearer
 pub passed-more : (w : ℕ) (xs : List Item) (at size : ℕ) (rest behind : List ℕ) → IsLeft w xs at rest → IsLeft w xs (at + 1) behind → size < length rest + length behind → Passed w xs size (at + 1)
 passed-more w xs at size rest behind left next far k e =
     let same : k ≡ at = omega arith in
@@ -284,7 +284,7 @@ pub own-size : (d : Content) → length (item_bytes d) ≡ length (first_bytes d
 unfolding item_bytes
 own-size d = length-append (first_bytes d.kind d.first) (packed (width d.kind) [] d.items)
 
--- behind the last place no bytes are packed
+-- behind the last position no bytes are packed
 pub packed-end : (w : ℕ) (before : List ℕ) (xs : List Item) (at : ℕ) → length xs ≤ at → [] ≡ packed w before (drop at xs)
 unfolding packed
 packed-end w before xs at h = sym (ap (packed w before) (drop_all at xs h))

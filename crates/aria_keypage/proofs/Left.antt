@@ -20,12 +20,12 @@ item_fits width [] at all h = absurd (omega arith)
 item_fits width (x ∷ items) zero all h = all.0
 item_fits width (x ∷ items) (suc at) all h = item_fits width items at all.1 (omega arith)
 
--- the items from a place on are the one there and those behind it
+-- the items from a position on are the one there and those behind it
 packed-at : (width : ℕ) (items : List Item) (at : ℕ) → at < length items → packed width (entry_before items at) (drop at items) ≡ packed_item width (entry_before items at) (item_at items at) ++ packed width (item_at items at).entry (drop (at + 1) items)
 unfolding packed
 packed-at width items at h = ap (packed width (entry_before items at)) (drop_more items at (record { entry = []; to = 0 }) h)
 
--- where an item is read, it is the one at the place, and those behind it are left
+-- where an item is read, it is the one at the position, and those behind it are left
 pub left-more : (width : ℕ) (items : List Item) (at : ℕ) (rest : List ℕ) (x : StoredItem × List ℕ) → AllByRecursion (IsItem width) items → IsLeft width items at rest → stored_at width rest ≡ Some x → at < length items
     → (x.0 ≡ as_stored width (entry_before items at) (item_at items at)) × IsLeft width items (at + 1) x.1
 left-more width items at rest x all left e h =
@@ -50,7 +50,7 @@ left-read width items at rest all left e h =
     ap (stored_at width) (left.is ∙ packed-at width items at h) ∙ item_again width before item behind (item_fits width items at all h) in
     cc
 
--- the entry of an item that was read is the one at the place
+-- the entry of an item that was read is the one at the position
 pub left-entry : (width : ℕ) (items : List Item) (at : ℕ) (before : List ℕ) (r : StoredItem) → before ≡ entry_before items at → r ≡ as_stored width (entry_before items at) (item_at items at) → entry_of before r ≡ entry_before items (at + 1)
 left-entry width items at before r eb er =
     (λ i. entry_of (eb i) (er i)) ∙ entry-again (entry_before items at) (item_at items at).entry ∙ sym (ap (entry_before items) (add-one at))

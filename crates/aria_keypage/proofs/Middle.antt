@@ -1,4 +1,4 @@
--- The place that is nearest to half of the item bytes.
+-- The position that is nearest to half of the item bytes.
 use Rattle.std.proofs.Common.{◌≡◌, ℕ, zero, suc, ◌+◌, ◌-◌, ◌*◌, ◌≤◌, ◌<◌, List, length, drop, refl, ap, ◌∙◌, arith, inl, inr}
 use Rattle.std.specs.List.{AllByRecursion}
 use Rattle.std.proofs.lemmas.Bool.{cases_lt}
@@ -11,11 +11,11 @@ use Rattle.aria_keypage.proofs.Spliced.{bytes_before, length-bytes_before, lengt
 use Rattle.aria_keypage.proofs.Stored.{shared-le}
 use Rattle.aria_keypage.proofs.Left.{item_fits}
 
--- the number of bytes that are left from a place on
+-- the number of bytes that are left from a position on
 abbrev pub left_size : ℕ → List Item → ℕ → ℕ
 left_size w xs at = length (packed w (entry_before xs at) (drop at xs))
 
--- the item bytes before a place, and those from there on
+-- the item bytes before a position, and those from there on
 pub half-size : (c : Content) (at : ℕ) → at ≤ length c.items → length (item_bytes (left_half c at)) + left_size (width c.kind) c.items at ≡ length (item_bytes c)
 unfolding item_bytes bytes_before
 half-size c at h = length-bytes_before c at h
@@ -33,7 +33,7 @@ item-some w before x = omega (arith, length-packed_item w before x, (shared-le b
 falls-next : (w : ℕ) (xs : List Item) (at : ℕ) → at < length xs → left_size w xs (suc at) < left_size w xs at
 falls-next w xs at h = omega (arith, left-next w xs at h, item-some w (entry_before xs at) (item_at xs at))
 
--- what is left falls from place to place
+-- what is left falls from position to position
 pub left-falls : (w : ℕ) (xs : List Item) (i k : ℕ) → i < k → k ≤ length xs → left_size w xs k < left_size w xs i
 left-falls w xs i zero h g = absurd (omega arith)
 left-falls w xs i (suc k) h g = elim (cases_lt i k) [
@@ -43,7 +43,7 @@ left-falls w xs i (suc k) h g = elim (cases_lt i k) [
       omega (arith, falls-next w xs k (omega arith), ap (left_size w xs) same)
 ]
 
--- a place is passed as long as the next one is nearer
+-- a position is passed as long as the next one is nearer
 abbrev pub Passed : ℕ → List Item → ℕ → ℕ → Type 0
 Passed w xs size at = (k : ℕ) → suc k ≡ at → size < left_size w xs k + left_size w xs at
 
@@ -54,7 +54,7 @@ nearer s a b la lb ea eb h g = omega arith
 no_farther : (s a b la lb : ℕ) → a + la ≡ s → b + lb ≡ s → lb ≤ la → la + lb ≤ s → (2 * a - s) + (s - 2 * a) ≤ (2 * b - s) + (s - 2 * b)
 no_farther s a b la lb ea eb h g = omega arith
 
--- the place whose next one isn't nearer
+-- the position whose next one isn't nearer
 middle-lower : (c : Content) (at other : ℕ) → at ≤ length c.items → Passed (width c.kind) c.items (length (item_bytes c)) at → other < at → from_half c at < from_half c other
 middle-lower c zero other h passed lt = absurd (omega arith)
 middle-lower c (suc k) other h passed lt =

@@ -43,7 +43,7 @@ patched head count a m z rest new two two_more room =
     put_over 2 head size count (a ++ (new ++ (z ++ last))) (sym two) (length-number 2 (length a + length new + length z) ∙ sym two_more) in
     (last, ap (λ (l : List ℕ). with_bytes 2 size (with_bytes n new l)) first ∙ ap (with_bytes 2 size) (second ∙ split) ∙ third)
 
--- a page whose item bytes differ in one place is made by these edits
+-- a page whose item bytes differ in one piece is made by these edits
 pub patch-changes : (c d : Content) (a m z new : List ℕ) → IsContent c → IsContent d → d.kind ≡ c.kind → d.key ≡ c.key → item_bytes c ≡ a ++ (m ++ z) → item_bytes d ≡ a ++ (new ++ z)
     → Changes (patch (length a) (length m) (length z) new) c d
 unfolding front

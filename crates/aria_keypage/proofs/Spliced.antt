@@ -8,7 +8,7 @@ use Rattle.aria_page.proofs.Numbers.{length-number, number-one}
 use Rattle.aria_keypage.specs.declared.kind.Kind.{Kind}
 use Rattle.aria_keypage.specs.declared.kind.Kind.TheVariants.{Leaf, Node}
 use Rattle.aria_keypage.specs.Item.{Item, IsItem, item_at, entry_before}
-use Rattle.aria_keypage.specs.Packed.{common, shared, packed_item, packed, IsLeft}
+use Rattle.aria_keypage.specs.Packed.{common_length, shared, packed_item, packed, IsLeft}
 use Rattle.aria_keypage.specs.Pieces.{first_packed, rest_packed}
 use Rattle.aria_keypage.specs.Content.{Content, width, first_bytes, item_bytes, IsContent}
 use Rattle.aria_keypage.specs.Change.{Changes, edit_bytes, with_item, without_item, inserted_bytes, removed_bytes, patch}
@@ -23,7 +23,7 @@ unfolding packed first_packed rest_packed
 pieces width before [] = refl
 pieces width before (x ∷ xs) = refl
 
--- the last entry of the items before a place is the one before it
+-- the last entry of the items before a position is the one before it
 last_entry-take : (before : List ℕ) (xs : List Item) (at : ℕ) → at < length xs → last_entry before (take (suc at) xs) ≡ (item_at xs at).entry
 last_entry-take before [] at h = absurd (omega arith)
 last_entry-take before (x ∷ xs) zero h = refl
@@ -38,11 +38,11 @@ pub packed-behind : (width : ℕ) (xs ys : List Item) (at : ℕ) → at ≤ leng
 packed-behind width xs ys at h =
     packed-append width [] (take at xs) ys ∙ ap (λ (l : List ℕ). packed width [] (take at xs) ++ packed width l ys) (last_entry-before xs at h)
 
--- the items, cut at a place
+-- the items, cut at a position
 pub packed-cut : (width : ℕ) (xs : List Item) (at : ℕ) → at ≤ length xs → packed width [] xs ≡ packed width [] (take at xs) ++ packed width (entry_before xs at) (drop at xs)
 packed-cut width xs at h = ap (packed width []) (sym (take-append-drop at xs)) ∙ packed-behind width xs (drop at xs) at h
 
--- one of many is the first from its place on
+-- one of many is the first from its position on
 pub drop-at : (xs : List Item) (at : ℕ) → at < length xs → drop at xs ≡ item_at xs at ∷ drop (suc at) xs
 drop-at xs at h = drop_more xs at (record { entry = []; to = 0 }) h ∙ ap (λ (k : ℕ). item_at xs at ∷ drop k xs) (add-one at)
 
@@ -62,7 +62,7 @@ all-drop P zero xs h = h
 all-drop P (suc n) [] h = tt
 all-drop P (suc n) (x ∷ xs) h = all-drop P n xs h.1
 
--- the bytes of the items before a place, with a node's first child
+-- the bytes of the items before a position, with a node's first child
 unfoldable pub bytes_before : Content → ℕ → List ℕ
 bytes_before c at = first_bytes c.kind c.first ++ packed (width c.kind) [] (take at c.items)
 
@@ -75,7 +75,7 @@ length-bytes_before c at h =
     let back : List ℕ = packed (width c.kind) (entry_before c.items at) (drop at c.items) in
     omega (arith, length-append first front, length-append first (packed (width c.kind) [] c.items), ap length (packed-cut (width c.kind) c.items at h), length-append front back)
 
--- the item bytes, cut at a place
+-- the item bytes, cut at a position
 bytes-cut : (c : Content) (at : ℕ) (ys : List Item) (tail : List ℕ) → at ≤ length c.items → packed (width c.kind) (entry_before c.items at) ys ≡ tail
     → first_bytes c.kind c.first ++ packed (width c.kind) [] (take at c.items ++ ys) ≡ bytes_before c at ++ tail
 unfolding bytes_before
@@ -84,7 +84,7 @@ bytes-cut c at ys tail h e =
     let front : List ℕ = packed (width c.kind) [] (take at c.items) in
     ap (λ (l : List ℕ). first ++ l) (packed-behind (width c.kind) c.items ys at h ∙ ap (λ (l : List ℕ). front ++ l) e) ∙ sym (append_assoc first front tail)
 
--- an item put at a place
+-- an item put at a position
 pub insert-changes : (c : Content) (at : ℕ) (x : Item) (before old behind : ℕ) (new : List ℕ) → IsContent c → IsItem (width c.kind) x → at ≤ length c.items → length (item_bytes (with_item c at x)) ≤ 8177
     → before + length (packed (width c.kind) (entry_before c.items at) (drop at c.items)) ≡ length (item_bytes c)
     → behind ≡ length (rest_packed (width c.kind) (drop at c.items))
@@ -122,8 +122,8 @@ length-packed_item width before x =
 shared-over : (p y z : List ℕ) → min (shared p y) (shared y z) ≤ shared p z
 unfolding shared
 shared-over p y z =
-    let n : ℕ = min (common p y) (common y z) in
-    let both : n ≤ common p z = common-both y p z n (omega (arith, common-turn p y)) (omega arith) in
+    let n : ℕ = min (common_length p y) (common_length y z) in
+    let both : n ≤ common_length p z = common-both y p z n (omega (arith, common-turn p y)) (omega arith) in
     omega arith
 
 -- taking an item out makes the bytes no more
@@ -133,7 +133,7 @@ shorter-without width before y [] = omega arith
 shorter-without width before y (z ∷ xs) =
     omega (arith, length-packed_item width before z, length-packed_item width before y, length-packed_item width y.entry z, shared-over before y.entry z.entry, (shared-le before y.entry).1, (shared-le y.entry z.entry).0)
 
--- an item taken from a place
+-- an item taken from a position
 pub remove-changes : (c : Content) (at : ℕ) (before old behind : ℕ) (new : List ℕ) → IsContent c → at < length c.items
     → before + length (packed (width c.kind) (entry_before c.items at) (drop at c.items)) ≡ length (item_bytes c)
     → behind ≡ length (rest_packed (width c.kind) (drop (suc at) c.items))
@@ -178,7 +178,7 @@ pushed-item width n s old before entry rest to a b c d size es er et ez ea eb ec
     (λ i. (((old ++ (ap (λ (k : ℕ). k ∷ []) es ∙ sym one) i) ++ (ez ∙ ap (λ (l : List ℕ). number 2 (length l)) rest_is) i) ++ rest_is i) ++ et i) in
     whole ∙ named ∙ simp append_assoc
 
--- what is left from a place on is no more than all, and what is left behind the item there no more than that
+-- what is left from a position on is no more than all, and what is left behind the item there no more than that
 pub left-sizes : (c : Content) (at size left behind : ℕ) → at ≤ length c.items → size ≡ length (item_bytes c) → left ≡ length (packed (width c.kind) (entry_before c.items at) (drop at c.items)) → behind ≡ length (rest_packed (width c.kind) (drop at c.items))
     → (left ≤ size) × (behind ≤ left)
 left-sizes c at size left behind h es el eb = (
@@ -191,12 +191,12 @@ pub first-none : (width : ℕ) (entry : List ℕ) (xs : List Item) (at : ℕ) �
 unfolding first_packed
 first-none width entry xs at h = ap (first_packed width entry) (drop_all at xs h)
 
--- the first from a place on is the item there
+-- the first from a position on is the item there
 pub first-at : (width : ℕ) (entry : List ℕ) (xs : List Item) (at : ℕ) → at < length xs → first_packed width entry (drop at xs) ≡ packed_item width entry (item_at xs at)
 unfolding first_packed
 first-at width entry xs at h = ap (first_packed width entry) (drop-at xs at h)
 
--- and the rest are those from the next place on
+-- and the rest are those from the next position on
 pub rest-at : (width : ℕ) (xs : List Item) (at : ℕ) → at < length xs → rest_packed width (drop at xs) ≡ packed width (entry_before xs (at + 1)) (drop (at + 1) xs)
 unfolding rest_packed
 rest-at width xs at h = ap (rest_packed width) (drop-at xs at h) ∙ ap (λ (k : ℕ). packed width (entry_before xs k) (drop k xs)) (sym (add-one at))
@@ -234,7 +234,7 @@ pub record Patches (c d : Content) (size left behind : ℕ) (new : List ℕ) (mo
   pub new_fits : size - left + length new + behind ≤ 8177
   pub few : length new ≤ most
 
--- what is left behind the next place is no more than what is left from a place on
+-- what is left behind the next position is no more than what is left from a position on
 pub behind-next : (c : Content) (at left behind : ℕ) → at < length c.items → left ≡ length (packed (width c.kind) (entry_before c.items at) (drop at c.items)) → behind ≡ length (rest_packed (width c.kind) (drop (at + 1) c.items)) → behind ≤ left
 unfolding packed
 behind-next c at left behind h el eb =

@@ -9,7 +9,7 @@ use Rattle.aria_page.proofs.Fields.{AreBytes-take, bind_some, Takes-then}
 use Rattle.aria_page.proofs.Numbers.{length-number, number_of-lt, number_of-number, number-number_of, number_takes, number_again}
 use Rattle.aria_page.proofs.Texts.{bytes_take, bytes_again}
 use Rattle.aria_keypage.specs.Item.{Item, IsItem}
-use Rattle.aria_keypage.specs.Packed.{common, shared, packed_item}
+use Rattle.aria_keypage.specs.Packed.{common_length, shared, packed_item}
 use Rattle.aria_keypage.specs.StoredItem.{StoredItem, as_stored, stored_at, entry_of, IsStored}
 use Rattle.aria_keypage.proofs.Shares.{common-le, common-same, take-common}
 
@@ -30,7 +30,7 @@ unfolding shared
 shared-lt before entry = omega arith
 
 -- no more is shared than both have
-pub shared-le : (before entry : List ℕ) → (shared before entry ≤ length before) × (shared before entry ≤ length entry) × (shared before entry ≤ common before entry)
+pub shared-le : (before entry : List ℕ) → (shared before entry ≤ length before) × (shared before entry ≤ length entry) × (shared before entry ≤ common_length before entry)
 unfolding shared
 shared-le before entry = let h = common-le before entry in (omega (arith, h.0), omega (arith, h.1), omega arith)
 
@@ -113,9 +113,9 @@ item_of-raw_of width before x fits =
     λ i. record { entry = entry-again before x.entry i; to = to i }
 
 -- where an item shares no more than stands before it, its entry has these bytes in common with the one before, and those that follow
-common-entry_of : (before : List ℕ) (r : StoredItem) → r.shared ≤ length before → common before (entry_of before r) ≡ r.shared + common (drop r.shared before) r.rest
+common-entry_of : (before : List ℕ) (r : StoredItem) → r.shared ≤ length before → common_length before (entry_of before r) ≡ r.shared + common_length (drop r.shared before) r.rest
 common-entry_of before r low =
-    let whole : common before (entry_of before r) ≡ common (take r.shared before ++ drop r.shared before) (entry_of before r) = ap (λ (l : List ℕ). common l (entry_of before r)) (sym (take-append-drop r.shared before)) in
+    let whole : common_length before (entry_of before r) ≡ common_length (take r.shared before ++ drop r.shared before) (entry_of before r) = ap (λ (l : List ℕ). common_length l (entry_of before r)) (sym (take-append-drop r.shared before)) in
     omega (arith, whole, common-same (take r.shared before) (drop r.shared before) r.rest, length-take r.shared before)
 
 -- the length of the entry
@@ -137,7 +137,7 @@ stored-full before r low fits full = record { shares = omega (arith, common-entr
 
 -- one that shares less stands there exactly where the next bytes differ
 pub stored-part : (before : List ℕ) (r : StoredItem) → r.shared ≤ length before → r.shared + length r.rest ≤ 1000 → r.shared < 256 → (r.shared ≡ 255 → ⊥)
-    → (common (drop r.shared before) r.rest ≡ 0 → IsStored before r) × (IsStored before r → common (drop r.shared before) r.rest ≡ 0)
+    → (common_length (drop r.shared before) r.rest ≡ 0 → IsStored before r) × (IsStored before r → common_length (drop r.shared before) r.rest ≡ 0)
 unfolding shared
 stored-part before r low fits byte part = (
   (λ h. record { shares = omega (arith, common-entry_of before r low); fits = omega (arith, length-entry_of before r low) }),

@@ -29,11 +29,11 @@ pub record Changes (edits : List Edit) (before after : Content) : Type 0 where
   pub within : AllByRecursion IsWithin edits
   pub body : (body : List ℕ) → length body ≡ BODY_BYTES → Spells body before → Spells (edited_by edits body) after
 
--- the page with one more item at a place
+-- the page with one more item at a position
 abbrev pub with_item : Content → ℕ → Item → Content
 with_item c at x = record c { items = insert c.items at x }
 
--- the page without the item at a place
+-- the page without the item at a position
 abbrev pub without_item : Content → ℕ → Content
 without_item c at = record c { items = remove c.items at }
 

@@ -15,11 +15,11 @@ pub record IsItem (width : ℕ) (x : Item) : Type 0 where
   pub entry : length x.entry ≤ ENTRY_MAX
   pub to : x.to < 256 ^ width
 
--- the item at a place, from 0 on
+-- the item at a position, from 0 on
 abbrev pub item_at : List Item → ℕ → Item
 item_at items at = slice_index_or items at (record { entry = []; to = 0 })
 
--- the entry that stands before a place; nothing before the first
+-- the entry that stands before a position; nothing before the first
 abbrev pub entry_before : List Item → ℕ → List ℕ
 entry_before items zero = []
 entry_before items (suc n) = (item_at items n).entry
@@ -28,7 +28,7 @@ entry_before items (suc n) = (item_at items n).entry
 abbrev pub is_below : List ℕ → List ℕ → Bool
 is_below a b = is_lt (slice_cmp nat_cmp a b)
 
--- the place is that of the first item whose entry isn't below the given one, or behind all; and same says whether that is its entry
-pub record IsPlace (entry : List ℕ) (items : List Item) (place : ℕ) (same : Bool) : Type 0 where
-  pub first : place ≡ prefix_len (λ x. is_below x.entry entry) items
-  pub found : IsTrue same ↔ ((place < length items) × ((item_at items place).entry ≡ entry))
+-- the position is that of the first item whose entry isn't below the given one, or behind all; and same says whether that is its entry
+pub record IsPosition (entry : List ℕ) (items : List Item) (position : ℕ) (same : Bool) : Type 0 where
+  pub first : position ≡ prefix_len (λ x. is_below x.entry entry) items
+  pub found : IsTrue same ↔ ((position < length items) × ((item_at items position).entry ≡ entry))

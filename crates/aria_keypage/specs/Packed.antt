@@ -6,12 +6,12 @@ use Rattle.aria_keypage.specs.declared.entry.TheConstants.{SHARED_MAX}
 use Rattle.aria_keypage.specs.Item.{Item, IsItem, entry_before}
 
 -- how many leading bytes two entries have in common
-abbrev pub common : List ℕ → List ℕ → ℕ
-common a b = common_prefix_len ◌==◌ a b
+abbrev pub common_length : List ℕ → List ℕ → ℕ
+common_length a b = common_prefix_len ◌==◌ a b
 
 -- how many leading bytes an entry takes from the one before it: all that both have in common, but at most so many as one byte counts
 unfoldable pub shared : List ℕ → List ℕ → ℕ
-shared before entry = min SHARED_MAX (common before entry)
+shared before entry = min SHARED_MAX (common_length before entry)
 
 -- 1 byte of how many bytes are shared, 2 of the length of the rest, the rest, and where the item leads
 unfoldable pub packed_item : ℕ → List ℕ → Item → List ℕ
@@ -29,7 +29,7 @@ pub record ArePacked (width : ℕ) (items : List Item) (bytes : List ℕ) : Type
   pub all : AllByRecursion (IsItem width) items
   pub is : bytes ≡ packed width [] items
 
--- what is left of packed items from a place on
+-- what is left of packed items from a position on
 pub record IsLeft (width : ℕ) (items : List Item) (at : ℕ) (rest : List ℕ) : Type 0 where
   pub within : at ≤ length items
   pub is : rest ≡ packed width (entry_before items at) (drop at items)

@@ -18,11 +18,11 @@ pub record AreItems (kind : Kind) (bytes : List ℕ) (count : ℕ) : Type 0 wher
   pub packed : ArePacked (width kind) (content_of kind 0 0 bytes).items bytes
   pub count_is : count ≡ length (content_of kind 0 0 bytes).items
 
--- what stays of a page: the items before a place
+-- what stays of a page: the items before a position
 abbrev pub left_half : Content → ℕ → Content
 left_half c at = record c { items = take at c.items }
 
--- what goes to the right: the items from the place on; in a node the entry there goes up, and its child becomes the first one
+-- what goes to the right: the items from the position on; in a node the entry there goes up, and its child becomes the first one
 abbrev pub right_from : Kind → Content → ℕ → Content
 right_from Leaf c at = record c { items = drop at c.items }
 right_from Node c at = record c { first = (item_at c.items at).to; items = drop (at + 1) c.items }
@@ -30,13 +30,13 @@ right_from Node c at = record c { first = (item_at c.items at).to; items = drop 
 abbrev pub right_half : Content → ℕ → Content
 right_half c at = right_from c.kind c at
 
--- twice the distance of a place from half of the item bytes
+-- twice the distance of a position from half of the item bytes
 abbrev pub from_half : Content → ℕ → ℕ
 from_half c at =
     let twice = 2 * length (item_bytes (left_half c at)) in
     (twice - length (item_bytes c)) + (length (item_bytes c) - twice)
 
--- the place that is nearest to half of the item bytes, the lower one of two
+-- the position that is nearest to half of the item bytes, the lower one of two
 pub record IsMiddle (c : Content) (at : ℕ) : Type 0 where
   pub within : at ≤ length c.items
   pub nearest : (other : ℕ) → other ≤ length c.items → from_half c at ≤ from_half c other

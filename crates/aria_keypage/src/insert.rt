@@ -12,14 +12,14 @@ ghost use Rattle.aria_keypage.specs.Change.{Changes, edit_bytes, with_item, inse
 
 use crate::edit::patch;
 use crate::entry::capped;
-use crate::find::{against, met_at};
+use crate::find::{against, common_at};
 use crate::item::{entry_behind, push_item, push_stored, stored_at};
 use crate::key_page::{ITEM_BYTES_MAX, KeyPage};
 use aria_page::{Edit, List};
 use std::alloc::{AllocError, Global};
 
 impl<'a> KeyPage<'a> {
-    // Adds the item at a place, where there is one, behind another entry than the one before it, and gives
+    // Adds the item at a position, where there is one, behind another entry than the one before it, and gives
     // what is left after it.
     pub(crate) fn push_next<'b>(
         &self,
@@ -43,23 +43,23 @@ impl<'a> KeyPage<'a> {
         Ok(behind)
     }
 
-    // The number of item bytes of the page with one more item at a place.
+    // The number of item bytes of the page with one more item at a position.
     fn grown(&self, at: usize, entry: &[u8]) -> usize
         requires at { at ≤ length self.now.items }
         requires entry { length entry.now ≤ ENTRY_MAX }
         ensures { (to : ℕ) → result ≡ length (item_bytes (with_item self.now at (record { entry = entry.now; to = to }))) }
     {
         let width = self.kind.width();
-        let (met, rest) = met_at(self.items, width, at, entry);
+        let (common, rest) = common_at(self.items, width, at, entry);
         let whole = self.size() + 3 + width + entry.len();
         let Some((item, _)) = stored_at(rest, width) else {
-            return whole - capped(met);
+            return whole - capped(common);
         };
-        let (same, _) = against(met, &item, entry);
-        whole + item.shared as usize - capped(met) - capped(same)
+        let (same, _) = against(common, &item, entry);
+        whole + item.shared as usize - capped(common) - capped(same)
     }
 
-    /// Whether the page has room for one more item, with this entry, at a place.
+    /// Whether the page has room for one more item, with this entry, at a position.
     pub fn has_room(&self, at: usize, entry: &[u8]) -> bool
         requires at { at ≤ length self.now.items }
         requires entry { length entry.now ≤ ENTRY_MAX }
@@ -68,7 +68,7 @@ impl<'a> KeyPage<'a> {
         self.grown(at, entry) <= ITEM_BYTES_MAX
     }
 
-    /// The edits that put an item at a place, or `None` where the page has no room for it. They bring at most 2018
+    /// The edits that put an item at a position, or `None` where the page has no room for it. They bring at most 2018
     /// bytes: the item and the one behind it, which then shares other bytes, and two of their number.
     pub fn insert(
         &self,

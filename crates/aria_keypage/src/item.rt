@@ -6,7 +6,7 @@ ghost use Rattle.aria_page.specs.Number.{number};
 ghost use Rattle.aria_page.specs.Field.{Gives};
 ghost use Rattle.aria_keypage.specs.declared.item.TheConstants.{ENTRY_MAX};
 ghost use Rattle.aria_keypage.specs.Item.{Item, IsItem, item_at};
-ghost use Rattle.aria_keypage.specs.Packed.{common, packed_item, IsLeft};
+ghost use Rattle.aria_keypage.specs.Packed.{common_length, packed_item, IsLeft};
 ghost use Rattle.aria_keypage.specs.Content.{width};
 ghost use Rattle.aria_keypage.specs.StoredItem.{stored_at, entry_of, IsStored};
 
@@ -42,7 +42,7 @@ pub(crate) fn stored_at<'a>(bytes: &'a [u8], width: usize) -> Option<(StoredItem
 
 // Whether the two have no leading byte in common.
 fn differ(a: &[u8], b: &[u8]) -> bool
-    ensures { IsTrue result ↔ (common a.now b.now ≡ 0) }
+    ensures { IsTrue result ↔ (common_length a.now b.now ≡ 0) }
 {
     if a.is_empty() {
         return true;

@@ -6,7 +6,7 @@ ghost use Rattle.aria_page.specs.Page.{page_body};
 ghost use Rattle.aria_page.specs.declared.page.TheConstants.{BODY_BYTES};
 ghost use Rattle.aria_keypage.specs.declared.key_page.TheConstants.{ITEM_BYTES_MAX, ITEM_BYTES_LOW};
 ghost use Rattle.aria_keypage.specs.declared.kind.Kind.TheVariants.{Node};
-ghost use Rattle.aria_keypage.specs.Item.{Item, item_at, entry_before, IsPlace};
+ghost use Rattle.aria_keypage.specs.Item.{Item, item_at, entry_before, IsPosition};
 ghost use Rattle.aria_keypage.specs.Packed.{ArePacked, IsLeft};
 ghost use Rattle.aria_keypage.specs.Content.{Content, width, first_bytes, item_bytes, IsFirst, IsContent, Spells};
 ghost use Rattle.aria_keypage.specs.Child.{child_at};
@@ -177,7 +177,7 @@ impl<'a> KeyPage<'a> {
         self.size() < ITEM_BYTES_LOW
     }
 
-    // The entry before a place, and what is left of the items from the place on.
+    // The entry before a position, and what is left of the items from the position on.
     pub(crate) fn walk_to(
         &self,
         alloc: Global,
@@ -190,7 +190,7 @@ impl<'a> KeyPage<'a> {
         walk_to(alloc, self.items, self.kind.width(), at)
     }
 
-    /// The entry at a place.
+    /// The entry at a position.
     pub fn entry_at(&self, alloc: Global, at: usize) -> Result<Bytes, AllocError>
         requires { at < length self.now.items }
         ensures { IfOk result (λ entry. entry ≡ (item_at self.now.items at).entry) }
@@ -199,7 +199,7 @@ impl<'a> KeyPage<'a> {
         Ok(Bytes::from_vec(entry))
     }
 
-    /// The target at a place of a leaf, or the child there of a node.
+    /// The target at a position of a leaf, or the child there of a node.
     pub fn target_at(&self, at: usize) -> u64
         requires { at < length self.now.items }
         ensures target { result ≡ (item_at self.now.items at).to }
@@ -208,7 +208,7 @@ impl<'a> KeyPage<'a> {
         target_of(self.kind, skip(self.items, self.kind.width(), at))
     }
 
-    /// The child at a place of a node, from left to right: place 0 is that of the first child.
+    /// The child at a position of a node, from left to right: position 0 is that of the first child.
     pub fn child_at(&self, at: usize) -> u32
         requires kind { self.now.kind ≡ Node }
         requires at { at ≤ length self.now.items }
@@ -220,9 +220,9 @@ impl<'a> KeyPage<'a> {
         self.target_at(at - 1) as u32
     }
 
-    /// The place of the first entry that isn't below the given one, and whether they are the same.
+    /// The position of the first entry that isn't below the given one, and whether they are the same.
     pub fn find(&self, entry: &[u8]) -> (usize, bool)
-        ensures { IsPlace entry.now self.now.items result.0 result.1 }
+        ensures { IsPosition entry.now self.now.items result.0 result.1 }
     {
         find_in(self.items, self.kind.width(), self.count, entry)
     }

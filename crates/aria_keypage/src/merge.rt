@@ -12,7 +12,7 @@ ghost use Rattle.aria_keypage.specs.Merge.{taken_over, joined};
 
 use crate::edit::patch;
 use crate::entry::{capped, shared_of};
-use crate::find::met_at;
+use crate::find::common_at;
 use crate::item::{push_item, stored_at};
 use crate::key_page::{ITEM_BYTES_MAX, KeyPage};
 use crate::kind::Kind;
@@ -74,8 +74,8 @@ impl<'a> KeyPage<'a> {
     fn shared_behind(&self, entry: &[u8]) -> usize
         ensures { result ≡ shared (entry_before self.now.items (length self.now.items)) entry.now }
     {
-        let (met, _) = met_at(self.items, self.kind.width(), self.count, entry);
-        capped(met)
+        let (common, _) = common_at(self.items, self.kind.width(), self.count, entry);
+        capped(common)
     }
 
     // The number of item bytes of the page with all items of the one to its right.

@@ -11,7 +11,7 @@ use aria_page::{Edit, List};
 use std::alloc::{AllocError, Global};
 
 impl<'a> KeyPage<'a> {
-    /// The edits that take the item from a place. They bring at most 1010 bytes: the item behind it, which then
+    /// The edits that take the item from a position. They bring at most 1010 bytes: the item behind it, which then
     /// shares other bytes, and two of the number of item bytes.
     pub fn remove(&self, alloc: Global, at: usize) -> Result<List<Edit>, AllocError>
         requires { at < length self.now.items }

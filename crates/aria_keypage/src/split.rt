@@ -39,7 +39,7 @@ fn lower(a: usize, b: usize) -> usize
     if a < b { a } else { b }
 }
 
-// The bytes from a place on and before another.
+// The bytes from a position on and before another.
 fn part(bytes: &[u8], from: usize, to: usize) -> &[u8]
     requires order { from ≤ to }
     requires within { to ≤ length bytes.now }
@@ -48,7 +48,7 @@ fn part(bytes: &[u8], from: usize, to: usize) -> &[u8]
     &bytes[from..to]
 }
 
-// The place nearest to half of the item bytes, the lower one of two, and what is left from there on.
+// The position nearest to half of the item bytes, the lower one of two, and what is left from there on.
 fn middle<'b>(items: &'b [u8], kind: Kind, count: usize, size: usize) -> (usize, &'b [u8])
     requires items { AreItems kind items.now count }
     requires most { length items.now ≤ 12000 }
@@ -69,7 +69,7 @@ fn middle<'b>(items: &'b [u8], kind: Kind, count: usize, size: usize) -> (usize,
     (count, rest)
 }
 
-// Adds the items from a place on, the first of which has this entry, behind no other.
+// Adds the items from a position on, the first of which has this entry, behind no other.
 fn push_rest(out: &mut Vec<u8>, kind: Kind, entry: &[u8], rest: &[u8]) -> Result<(), AllocError>
     requires { length entry.now ≤ ENTRY_MAX }
     ensures { (xs : List Item) → (at : ℕ) → AllByRecursion (IsItem (width kind)) xs → IsLeft (width kind) xs at rest.now → (at < length xs → entry.now ≡ (item_at xs at).entry) → IfOk result (λ _. out.new.items ≡ out.old.items ++ packed (width kind) [] (drop at xs)) }
@@ -82,7 +82,7 @@ fn push_rest(out: &mut Vec<u8>, kind: Kind, entry: &[u8], rest: &[u8]) -> Result
     Ok(())
 }
 
-// Adds the item bytes of a node whose first child is that of the item at a place, and whose items are those behind it.
+// Adds the item bytes of a node whose first child is that of the item at a position, and whose items are those behind it.
 fn push_node(
     alloc: Global,
     items: &[u8],
@@ -124,7 +124,7 @@ impl<'a> KeyPage<'a> {
         patch(alloc, first + same, len - same, 0, bytes)
     }
 
-    // The body of the page to the right, which has the items from a place on.
+    // The body of the page to the right, which has the items from a position on.
     fn right_body(
         &self,
         alloc: Global,

@@ -40,7 +40,7 @@ fn an_item_shares_all_leading_bytes_with_the_one_before(rt: HostRuntime) -> Resu
 }
 
 #[test]
-fn the_place_of_an_entry_is_found(rt: HostRuntime) -> Result<(), Fail> {
+fn the_position_of_an_entry_is_found(rt: HostRuntime) -> Result<(), Fail> {
     let page = page_of(SHARING);
     let view = KeyPage::view(&page).ok_or("a leaf")?;
     assert_eq!(rt; view.find(&[1, 0x61, 0x62]), (0, true));
@@ -167,7 +167,7 @@ fn two_leaves_are_joined_where_they_fit_in_one(rt: HostRuntime) -> Result<(), Fa
 }
 
 #[test]
-fn a_leaf_is_split_at_the_lower_of_two_places(rt: HostRuntime) -> Result<(), Fail> {
+fn a_leaf_is_split_at_the_lower_of_two_positions(rt: HostRuntime) -> Result<(), Fail> {
     let front = page_front(rt.alloc(), &[10, 4, 0x0a, 0xa4], true, 1, 4)?;
     let mut page = page_of(front.as_slice());
     let view = KeyPage::view(&page).ok_or("a leaf")?;

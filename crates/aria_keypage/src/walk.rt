@@ -53,7 +53,7 @@ pub(crate) fn skip(items: &[u8], width: usize, count: usize) -> &[u8]
     rest
 }
 
-// The entry before a place, put together from those before it, and what is left from the place on.
+// The entry before a position, put together from those before it, and what is left from the position on.
 pub(crate) fn walk_to<'b>(
     alloc: Global,
     items: &'b [u8],

@@ -4,13 +4,13 @@ use Rattle.aria_keypage.proofs.Shares.{common-le}
 use Rattle.aria_keypage.proofs.Sought.{against-beyond, against-rest}
 use Rattle.aria_keypage.proofs.find.against.Goals as goal
 
-pub returns-then-shared-met-clause-common : goal.returns-then-shared-met-clause-common
-returns-then-shared-met-clause-common c before there e shares rest =
-    (against-beyond before there c.args.entry.now c.args.met c.args.item.now.shared e c.if-shared-met.true shares).0
+pub returns-then-shared-common-clause-common : goal.returns-then-shared-common-clause-common
+returns-then-shared-common-clause-common c before there e shares rest =
+    (against-beyond before there c.args.entry.now c.args.common c.args.item.now.shared e c.if-shared-common.true shares).0
 
-pub returns-then-shared-met-clause-order : goal.returns-then-shared-met-clause-order
-returns-then-shared-met-clause-order c before there e below shares rest =
-    (against-beyond before there c.args.entry.now c.args.met c.args.item.now.shared e c.if-shared-met.true shares).1 below
+pub returns-then-shared-common-clause-order : goal.returns-then-shared-common-clause-order
+returns-then-shared-common-clause-order c before there e below shares rest =
+    (against-beyond before there c.args.entry.now c.args.common c.args.item.now.shared e c.if-shared-common.true shares).1 below
 
 pub overflow_add-result : goal.overflow_add-result
 overflow_add-result c =
@@ -25,9 +25,9 @@ returns-clause-within c =
 pub returns-clause-common : goal.returns-clause-common
 returns-clause-common c before there e shares rest =
     ap (λ (k : ℕ). c.args.item.now.shared + k) c.compare-same.ensures.common
-    ∙ (against-rest before there c.args.entry.now c.args.item.now.rest.now c.bytes_from.result.now c.args.met c.args.item.now.shared e c.if-shared-met.false shares rest c.bytes_from.ensures.value).0
+    ∙ (against-rest before there c.args.entry.now c.args.item.now.rest.now c.bytes_from.result.now c.args.common c.args.item.now.shared e c.if-shared-common.false shares rest c.bytes_from.ensures.value).0
 
 pub returns-clause-order : goal.returns-clause-order
 returns-clause-order c before there e below shares rest =
     c.compare-same.ensures.order
-    ∙ (against-rest before there c.args.entry.now c.args.item.now.rest.now c.bytes_from.result.now c.args.met c.args.item.now.shared e c.if-shared-met.false shares rest c.bytes_from.ensures.value).1
+    ∙ (against-rest before there c.args.entry.now c.args.item.now.rest.now c.bytes_from.result.now c.args.common c.args.item.now.shared e c.if-shared-common.false shares rest c.bytes_from.ensures.value).1

@@ -12,7 +12,7 @@ returns-in_default c to =
     let x : Item = record { entry = c.args.entry.now; to = to } in
     let ew = c.width-width.ensures ∙ ap (λ (e : Content). width e.kind) c.self.view_is in
     let is = packed-seen _ d c.width-width.result c.self.inside.items.now c.self.view_is c.self.invariant.packed ew in
-    let size = grown-last d c.args.at c.width-width.result c.capped.result c.met_at-met.result.0 x c.self.inside.items.now c.met_at-met.result.1.now is ew (c.met_at-met.ensures.left d.items is c.requires.at) c.in_default.ensures (c.met_at-met.ensures.met d.items is c.requires.at) c.capped.ensures in
+    let size = grown-last d c.args.at c.width-width.result c.capped.result c.common_at-common.result.0 x c.self.inside.items.now c.common_at-common.result.1.now is ew (c.common_at-common.ensures.left d.items is c.requires.at) c.in_default.ensures (c.common_at-common.ensures.common d.items is c.requires.at) c.capped.ensures in
     omega (arith, size, c.size.ensures.size)
 
 pub overflow_sub-result-3 : goal.overflow_sub-result-3
@@ -22,8 +22,8 @@ overflow_sub-result-3 c =
     let ew = c.width-width.ensures ∙ ap (λ (e : Content). width e.kind) c.self.view_is in
     let is = packed-seen _ d c.width-width.result c.self.inside.items.now c.self.view_is c.self.invariant.packed ew in
     let r : StoredItem = record { shared = c.in-Some.item.shared; rest = c.in-Some.item.rest.now; to = c.in-Some.item.to.now } in
-    let size = grown-inside d c.args.at c.width-width.result c.capped-2.result c.capped-3.result c.met_at-met.result.0 c.against-same.result.0 x c.self.inside.items.now c.met_at-met.result.1.now _ r is ew (c.met_at-met.ensures.left d.items is c.requires.at) c.in-Some.ensures
-    (c.met_at-met.ensures.met d.items is c.requires.at) c.against-same.ensures.common c.capped-2.ensures c.capped-3.ensures in
+    let size = grown-inside d c.args.at c.width-width.result c.capped-2.result c.capped-3.result c.common_at-common.result.0 c.against-same.result.0 x c.self.inside.items.now c.common_at-common.result.1.now _ r is ew (c.common_at-common.ensures.left d.items is c.requires.at) c.in-Some.ensures
+    (c.common_at-common.ensures.common d.items is c.requires.at) c.against-same.ensures.common c.capped-2.ensures c.capped-3.ensures in
     omega (arith, size, c.size.ensures.size)
 
 pub returns : goal.returns
@@ -33,6 +33,6 @@ returns c to =
     let ew = c.width-width.ensures ∙ ap (λ (e : Content). width e.kind) c.self.view_is in
     let is = packed-seen _ d c.width-width.result c.self.inside.items.now c.self.view_is c.self.invariant.packed ew in
     let r : StoredItem = record { shared = c.in-Some.item.shared; rest = c.in-Some.item.rest.now; to = c.in-Some.item.to.now } in
-    let size = grown-inside d c.args.at c.width-width.result c.capped-2.result c.capped-3.result c.met_at-met.result.0 c.against-same.result.0 x c.self.inside.items.now c.met_at-met.result.1.now _ r is ew (c.met_at-met.ensures.left d.items is c.requires.at) c.in-Some.ensures
-    (c.met_at-met.ensures.met d.items is c.requires.at) c.against-same.ensures.common c.capped-2.ensures c.capped-3.ensures in
+    let size = grown-inside d c.args.at c.width-width.result c.capped-2.result c.capped-3.result c.common_at-common.result.0 c.against-same.result.0 x c.self.inside.items.now c.common_at-common.result.1.now _ r is ew (c.common_at-common.ensures.left d.items is c.requires.at) c.in-Some.ensures
+    (c.common_at-common.ensures.common d.items is c.requires.at) c.against-same.ensures.common c.capped-2.ensures c.capped-3.ensures in
     omega (arith, size, c.size.ensures.size)

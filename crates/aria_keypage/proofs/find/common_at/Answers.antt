@@ -1,16 +1,16 @@
 use Rattle.std.proofs.Common.{◌≡◌, ◌∙◌, ◌<◌, ◌+◌, ap, sym, arith, length, List, ℕ, refl, add-one}
 use Rattle.aria_keypage.specs.Item.{item_at, entry_before}
-use Rattle.aria_keypage.specs.Packed.{common}
+use Rattle.aria_keypage.specs.Packed.{common_length}
 use Rattle.aria_keypage.specs.StoredItem.{StoredItem}
 use Rattle.aria_keypage.proofs.Left.{left-all, left-more, left-read}
 use Rattle.aria_keypage.proofs.Sought.{read-shares}
-use Rattle.aria_keypage.proofs.find.met_at.Goals as goal
+use Rattle.aria_keypage.proofs.find.common_at.Goals as goal
 
 pub loop-at-init : goal.loop-at-init
 loop-at-init c = record { within = omega arith; there = λ xs is h. (left-all c.args.width xs c.args.items.now is, refl) }
 
-pub returns-in_default-clause-met : goal.returns-in_default-clause-met
-returns-in_default-clause-met c xs is h = absurd (left-read c.args.width xs c.loop-at.at c.loop-at.rest.now is.all (c.loop-at.invariant.there xs is h).0 c.in_default.ensures (omega arith))
+pub returns-in_default-clause-common : goal.returns-in_default-clause-common
+returns-in_default-clause-common c xs is h = absurd (left-read c.args.width xs c.loop-at.at c.loop-at.rest.now is.all (c.loop-at.invariant.there xs is h).0 c.in_default.ensures (omega arith))
 
 pub returns-in_default-clause-left : goal.returns-in_default-clause-left
 returns-in_default-clause-left c xs is h = absurd (left-read c.args.width xs c.loop-at.at c.loop-at.rest.now is.all (c.loop-at.invariant.there xs is h).0 c.in_default.ensures (omega arith))
@@ -26,5 +26,5 @@ loop-at-preserved c =
           let more = left-more c.args.width xs c.loop-at.at c.loop-at.rest.now (r, c.in-Some.behind.now) is.all inv.0 c.in-Some.ensures low in
           let read = read-shares c.args.width xs c.loop-at.at r more.0 in
           let next : entry_before xs (c.loop-at.at + 1) ≡ (item_at xs c.loop-at.at).entry = ap (entry_before xs) (add-one c.loop-at.at) in
-          (more.1, c.against-same.ensures.common (entry_before xs c.loop-at.at) (item_at xs c.loop-at.at).entry inv.1 read.0 read.1 ∙ ap (λ (l : List ℕ). common l c.args.entry.now) (sym next));
+          (more.1, c.against-same.ensures.common (entry_before xs c.loop-at.at) (item_at xs c.loop-at.at).entry inv.1 read.0 read.1 ∙ ap (λ (l : List ℕ). common_length l c.args.entry.now) (sym next));
     }
