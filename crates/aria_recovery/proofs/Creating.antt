@@ -171,6 +171,13 @@ module _ (opened : List ℕ → Bool) (gs : List Logged) (name : List ℕ) (clos
   calm_dropped p s t done dropped at to images call = calm_call opened s t gs (length gs) (MayMake (file name p) None done) at.only to.now images
       (λ d c left step. dropped_step opened gs name p s.folder None done closed dropped d c (images d left) step) call.images call.tells
 
+  -- DROP: both files, the index file first
+  pub dropped : (s0 s1 s2 : State) (done : Bool) → (life_of name gs).last ≡ Some None → IsSteady s0 → IsSteady s1 → IsSteady s2 → AreImages opened s0 gs (length gs) → Removes (file name Keys) s0 s1 true → Removes (file name Rows) s1 s2 done
+      → Calm opened s0 s2 gs (length gs)
+  dropped s0 s1 s2 done last h0 h1 h2 images keys rows =
+      let c1 = calm_dropped Keys s0 s1 true last h0 h1 images keys in
+      calm_on opened s0 s1 s2 gs (length gs) c1 (calm_dropped Rows s1 s2 done last h1 h2 c1.images rows)
+
   -- a left-over of a name that has no table by any front
   pub calm_left_over : (p : Part) (s t : State) (forced : ℕ) (done : Bool) → ((m : ℕ) → forced ≤ m → m ≤ length gs → tables_of s.folder (take m gs) name ≡ None) → IsSteady s → IsSteady t
       → AreImages opened s gs forced → Removes (file name p) s t done → Calm opened s t gs forced
