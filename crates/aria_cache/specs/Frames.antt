@@ -17,7 +17,7 @@ pub record Held : Type 0 where
   pub dirty : Bool
 
 abbrev pub shown : Frame → Held
-shown f = record { lsn = lsn_number f.lsn; body = page_body f.page; dirty = f.dirty }
+shown f = record { lsn = lsn_number f.lsn; body = page_body f.page.value; dirty = f.dirty }
 
 -- the page of each number, where it is held
 abbrev pub held : Frames → ℕ → Option Held

@@ -32,7 +32,7 @@ blank_body part set number = if is_map part number && nat_lt number set then bit
 
 -- a page that was edited
 abbrev pub kept_body : MemFile → ℕ → Option (List ℕ)
-kept_body file number = option_map page_body (get nat_eq file.pages number)
+kept_body file number = option_map (λ b. page_body b.value) (get nat_eq file.pages number)
 
 -- the page of a file that is there or not
 abbrev pub file_body : Part → Option MemFile → ℕ → List ℕ

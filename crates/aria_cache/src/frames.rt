@@ -23,7 +23,7 @@ const NEAR: usize = 64;
 /// A page that is held.
 #[derive(Drop)]
 pub struct Frame {
-    pub page: Page,
+    pub page: Box<Page>,
     pub lsn: Lsn,
     pub dirty: bool,
 }

@@ -19,7 +19,7 @@ pub struct MemFile {
     /// The number of pages that was set, before any edit.
     pub(crate) set: u32,
     pub(crate) count: u32,
-    pub(crate) pages: HashMap<u32, Page>,
+    pub(crate) pages: HashMap<u32, Box<Page>>,
 }
 
 // A page that was never edited.
@@ -52,7 +52,7 @@ impl MemFile {
         ensures { page_body result ≡ file_body part (Some self.now) number }
     {
         match self.pages.get(&number) {
-            Some(page) => *page,
+            Some(page) => **page,
             None => blank(part, self.set, number),
         }
     }
@@ -75,19 +75,20 @@ impl MemFile {
     }
 
     // Keeps a page.
-    fn keep(&mut self, number: u32, page: Page) -> Result<(), AllocError>
+    fn keep(&mut self, alloc: Global, number: u32, page: Page) -> Result<(), AllocError>
         ensures set { self.new.set ≡ self.old.set }
         ensures count { self.new.count ≡ self.old.count }
         ensures ok { OnOk result ((q : ℕ) → kept_body self.new q ≡ (if number == q then Some (page_body page) else kept_body self.old q)) }
         ensures err { OnErr result ((q : ℕ) → kept_body self.new q ≡ kept_body self.old q) }
     {
-        self.pages.insert(number, page)?;
+        self.pages.insert(number, Box::new(alloc, page)?)?;
         Ok(())
     }
 
     /// Edits a page.
     pub(crate) fn edit(
         &mut self,
+        alloc: Global,
         part: Part,
         number: u32,
         edits: &[Change<'_>],
@@ -100,7 +101,7 @@ impl MemFile {
         if !self.edit_kept(number, edits) {
             let mut page = blank(part, self.set, number);
             apply_all(edits, &mut page);
-            self.keep(number, page)?;
+            self.keep(alloc, number, page)?;
         }
         self.count = self.count.max(number + 1);
         Ok(())

@@ -114,6 +114,7 @@ fn make_in(
 // Edits a page of the file of that name, if it is there.
 fn change_in(
     files: &mut BTreeMap<Name, MemFile>,
+    alloc: Global,
     part: Part,
     name: &Name,
     number: u32,
@@ -126,7 +127,7 @@ fn change_in(
     ensures err { OnErr result (SameIn part files.old files.new) }
 {
     match files.get_mut(name) {
-        Some(file) => file.edit(part, number, edits),
+        Some(file) => file.edit(alloc, part, number, edits),
         None => Ok(()),
     }
 }
@@ -146,7 +147,7 @@ fn edit_in(
     ensures err { OnErr result (SameIn part files.old files.new) }
 {
     make_in(files, alloc, part, *name)?;
-    change_in(files, part, name, number, edits)
+    change_in(files, alloc, part, name, number, edits)
 }
 
 // Sets the number of pages of the file of that name.

@@ -7,12 +7,12 @@ use std::test::*;
 const NONE: Lsn = Lsn { file: 0, offset: 0 };
 
 // Holds a page of zeros more, if it isn't held and there is room.
-fn hold(frames: &mut Frames, key: u64) -> Result<bool, AllocError> {
+fn hold(alloc: Global, frames: &mut Frames, key: u64) -> Result<bool, AllocError> {
     if frames.is_full() || frames.peek(key).is_some() {
         return Ok(false);
     }
     let frame = Frame {
-        page: Page::zero(),
+        page: Box::new(alloc, Page::zero())?,
         lsn: NONE,
         dirty: false,
     };
@@ -31,7 +31,7 @@ fn the_page_used_longest_ago_goes_first(rt: HostRuntime) -> Result<(), AllocErro
     let most = NonZeroUsize::new(3).unwrap_or(NonZeroUsize::MIN);
     let mut frames = Frames::new(rt.alloc(), most)?;
     for key in 1..5u64 {
-        let held = hold(&mut frames, key)?;
+        let held = hold(rt.alloc(), &mut frames, key)?;
         assert_eq!(rt; held, key < 4);
     }
     assert_eq!(rt; frames.count(), 3);
@@ -55,8 +55,8 @@ fn a_clean_page_goes_before_a_dirty_one(rt: HostRuntime) -> Result<(), AllocErro
         rt.alloc(),
         NonZeroUsize::new(3).unwrap_or(NonZeroUsize::MIN),
     )?;
-    hold(&mut frames, 1)?;
-    hold(&mut frames, 2)?;
+    hold(rt.alloc(), &mut frames, 1)?;
+    hold(rt.alloc(), &mut frames, 2)?;
     let lsn = Lsn {
         file: 1,
         offset: 16,
