@@ -9,16 +9,11 @@ use Rattle.aria_page.specs.Lsn.{lsn_number}
 use Rattle.aria_page.specs.declared.lsn.Lsn.{Lsn}
 use Rattle.aria_value.specs.Named.{same_name}
 use Rattle.aria_record.specs.Logged.{Logged, lsn_at_place}
-use Rattle.aria_recovery.specs.Redo.{number_at}
+use Rattle.aria_recovery.specs.Redo.{number_at, Rises}
 use Rattle.aria_recovery.specs.Pending.{above}
 use Rattle.aria_recovery.specs.Tables.{Maker, Life, lives, life_from, life_of, says_group, told_by}
 use Rattle.aria_recovery.proofs.Numbering.{number_rises, number_rises_not}
 use Rattle.aria_recovery.proofs.Comparing.{lt_true, lt_false}
-
--- the groups' places rise, from there on
-abbrev pub Rises : ℕ → List Logged → Type 0
-Rises low [] = Unit {0}
-Rises low (g ∷ gs) = (low ≤ g.at) × Rises (g.at + 1) gs
 
 filter_push : (at : Lsn) (gs : List Logged) (g : Logged) → filter (above at) (gs ++ g ∷ []) ≡ filter (above at) gs ++ filter (above at) (g ∷ [])
 filter_push at [] g = refl
@@ -41,7 +36,7 @@ next_below low high [] g is le last = (last, tt)
 next_below low high (h ∷ gs) g is le last = (omega (arith, is.0, le, last), next_below low high gs g is.1 le last)
 
 -- a create bears its group's log sequence number
-said_at : (name : List ℕ) (at : Lsn) (group : List Record) (m : Maker) → says_group name at group ≡ Some (Some m) → m.at ≡ at
+pub said_at : (name : List ℕ) (at : Lsn) (group : List Record) (m : Maker) → says_group name at group ≡ Some (Some m) → m.at ≡ at
 said_at name at [] m is = absurd (cc)
 said_at name at (CreateTable table plain definition format ∷ rs) m is = by (same_name name table) is
   where

@@ -1,3 +1,4 @@
+pub mod Counting
 pub mod Adding
 pub mod Chaining
 pub mod Noting

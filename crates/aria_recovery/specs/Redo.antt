@@ -1,5 +1,5 @@
 -- What the groups of the log make of a page of a table's file.
-use Rattle.std.specs.Prelude.{◌==◌, ◌&&◌, ◌||◌, if◌then◌else◌, ℕ, ◌+◌, max, Bool, true, false, nat_eq, nat_lt, Option, None, Some, List, [], ◌∷◌, ◌++◌, drop}
+use Rattle.std.specs.Prelude.{◌==◌, ◌&&◌, ◌||◌, if◌then◌else◌, ℕ, ◌+◌, ◌≤◌, max, Bool, true, false, nat_eq, nat_lt, Option, None, Some, List, [], ◌∷◌, ◌++◌, drop}
 use Rattle.std.specs.Option.{option_map, option_map_or}
 use Rattle.std.specs.Cmp.Lexicographic.{pointwise}
 use Rattle.aria_page.specs.Page.{zero_page, page_body, page_lsn}
@@ -19,6 +19,11 @@ use Rattle.aria_record.specs.Logged.{Logged, lsn_at_place}
 -- the number of the log sequence number of a group at that place
 abbrev pub number_at : ℕ → ℕ
 number_at place = lsn_number (lsn_at_place place)
+
+-- the groups stand one behind another, from a place on
+abbrev pub Rises : ℕ → List Logged → Type 0
+Rises low [] = Unit {0}
+Rises low (g ∷ gs) = (low ≤ g.at) × Rises (g.at + 1) gs
 
 -- a page as redo sees it: the number of its log sequence number and its body; nothing where it isn't sound
 abbrev pub Seen : Type 0
