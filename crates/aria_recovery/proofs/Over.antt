@@ -1,5 +1,5 @@
 -- Frames over a folder: each step of redo and of a running pager.
-use Rattle.std.proofs.Common.{◌≡◌, ◌∙◌, ◌||◌, ℕ, ◌+◌, ◌<◌, ◌≤◌, Bool, true, false, cond, List, [], ◌∷◌, ◌++◌, length, nat_eq, ap, sym, refl, subst, arith, Option, None, Some}
+use Rattle.std.proofs.Common.{◌≡◌, ◌∙◌, ◌||◌, ℕ, ◌+◌, ◌<◌, ◌≤◌, Bool, true, false, cond, List, [], ◌∷◌, ◌++◌, length, nat_eq, ap, sym, refl, subst, arith, Option, None, Some, ◌-◌, max, IsTrue}
 use Rattle.std.specs.Option.{option_map}
 use Rattle.std.specs.Map.{update}
 use Rattle.aria_page.specs.declared.edit.Edit.{Edit}
@@ -8,10 +8,14 @@ use Rattle.aria_host.specs.Folder.{Folder, with_page}
 use Rattle.aria_record.specs.declared.record.Record.{Record}
 use Rattle.aria_record.specs.declared.record.Record.TheVariants.{Redo}
 use Rattle.aria_record.specs.Logged.{Logged}
-use Rattle.aria_recovery.specs.Redo.{Seen, number_at, seen, is_some_edit}
-use Rattle.aria_recovery.specs.Tables.{file, told_by}
+use Rattle.aria_recovery.specs.Redo.{Seen, number_at, seen, is_some_edit, redo, reach, Content}
+use Rattle.aria_recovery.specs.Tables.{file, told_by, AreCurrent, life_of}
 use Rattle.aria_cache.specs.Frames.{Held, edited_held, stamped, cleaned}
-use Rattle.aria_recovery.specs.Frames.{Frames, Spot, Spots, as_seen, raw_at, redone_at, edits_of, base_of, AreApart, FrameOn, FramesOver}
+use Rattle.aria_recovery.specs.Frames.{Frames, Spot, Spots, as_seen, raw_at, redone_at, edits_of, base_of, AreApart, FrameOn, FramesOver, front_of}
+use Rattle.aria_host.specs.Steps.{MayWrite}
+use Rattle.aria_host.specs.Seen.{page_or_zero}
+use Rattle.aria_recovery.specs.Images.{IsNeutral}
+use Rattle.aria_recovery.proofs.Framing.{front_step}
 use Rattle.aria_recovery.proofs.Frames.{frame_none, frame_alike, frame_washed, frame_free, frame_edited, frame_passed, frame_ended, frame_begun}
 use Rattle.aria_recovery.proofs.Behind.{redone_zero, redone_steady, redone_next, redone_push, edits_begin}
 use Rattle.aria_recovery.proofs.Placing.{raw_here, raw_others, edits_more, edits_apart}
@@ -98,3 +102,14 @@ over_pushed known frames pins place d gs g at' next next' low le quiet frame =
     ends_empty known (λ k. cond (pins k) (option_map (stamped (number_at g.at)) (frames k)) (frames k)) (λ k. false) place d (gs ++ g ∷ []) (length (gs ++ g ∷ [])) at' next'
     (frame_ended known frames pins (λ k. raw_at d (place k)) (λ k. redone_at gs (length gs) (place k) (raw_at d (place k))) (λ k. edits_of gs (length gs) g.group (place k)) (number_at g.at) next
     (λ k. redone_at (gs ++ g ∷ []) (length (gs ++ g ∷ [])) (place k) (raw_at d (place k))) at' next' low le (λ k. redone_push gs g (place k) (raw_at d (place k)) (quiet k)) frame)
+
+-- A HELD PAGE MAY BE WRITTEN once all groups are forced, where it isn't pinned, also while redo is at some group.
+pub over_neutral : (opened : List ℕ → Bool) (known : ℕ → Bool) (frames : Frames) (pins : ℕ → Bool) (place : Spots) (d : Folder) (gs : List Logged) (i : ℕ) (rs : List Record) (at next : ℕ) (n : ℕ) (h : Held) (s : Spot) (page : List ℕ) (pages : List (List ℕ))
+    → place n ≡ Some s → frames n ≡ Some h → pins n ≡ false → seen page ≡ Some (as_seen h) → IsTrue (opened s.name) → AreCurrent s.name gs d → d (file s.name s.part) ≡ Some pages
+    → s.page < max (length pages) (reach s.name s.part (life_of s.name gs).since) → FramesOver known frames pins place d gs i rs at next → IsNeutral opened gs (length gs) d (MayWrite (file s.name s.part) s.page page)
+over_neutral opened known frames pins place d gs i rs at next n h s page pages here there free sealed on current is within frame =
+    front_step opened gs s.name s.part s.page page d pages h.lsn h.body (i - base_of s.name gs) on current is
+      (ap (redo s.name s.part s.page (front_of s.name gs i)) (ap (λ (c : Content). seen (page_or_zero s.page c)) (sym is))
+        ∙ ap (λ (spot : Option Spot). redone_at gs i spot (raw_at d spot)) (sym here)
+        ∙ frame_free known frames pins (λ k. raw_at d (place k)) (λ k. redone_at gs i (place k) (raw_at d (place k))) (λ k. edits_of gs i rs (place k)) at next n h there free frame)
+      sealed within
