@@ -1,3 +1,4 @@
+pub mod Editing
 pub mod Counting
 pub mod Adding
 pub mod Chaining
