@@ -1,5 +1,5 @@
 -- Which groups count for a name, by their log sequence numbers.
-use Rattle.std.proofs.Common.{◌≡◌, ◌∙◌, ℕ, zero, suc, ◌+◌, ◌-◌, ◌<◌, ◌≤◌, Bool, true, false, List, [], ◌∷◌, ◌++◌, length, ap, sym, refl, subst, arith, length-append, append_assoc, Option, None, Some, ◌⊎◌, inl, inr}
+use Rattle.std.proofs.Common.{◌≡◌, ◌∙◌, ℕ, zero, suc, ◌+◌, ◌<◌, ◌≤◌, true, false, List, [], ◌∷◌, ◌++◌, length, ap, sym, refl, subst, arith, length-append, append_assoc, Option, None, Some, ◌⊎◌, inl, inr}
 use Rattle.std.proofs.lemmas.List.{append-nil}
 use Rattle.std.specs.List.{slice_get}
 use Rattle.std.proofs.lemmas.Bool.{cases_lt}
@@ -87,30 +87,39 @@ counts_made name gs before after g maker rises last is = (on, off)
   where
     said : Said name (Some maker) (life_of name gs).since gs
     said = said_last name gs (Some maker) last
+
     base : base_of name gs ≡ length said.front + 1
     base = omega (arith, ap length said.whole, length-append said.front (said.group ∷ (life_of name gs).since))
+
     at_is : maker.at ≡ lsn_at_place said.group.at
     at_is = said_at name (lsn_at_place said.group.at) said.group.group maker said.told
+
     mine : slice_get gs (length said.front) ≡ Some said.group
     mine = at_index gs said.front (life_of name gs).since said.group said.whole
+
     this : slice_get gs (length before) ≡ Some g
     this = at_index gs before after g is
+
     past_at : length said.front < length before → is_behind maker.at (lsn_at_place g.at) ≡ true
     past_at more = ap (λ (l : Lsn). is_behind l (lsn_at_place g.at)) at_is ∙ lt_true _ _ (number_rises said.group.at g.at (places_order 0 gs (length said.front) (length before) said.group g rises mine this more))
+
     not_past : length before ≤ length said.front → is_behind maker.at (lsn_at_place g.at) ≡ false
     not_past less = ap (λ (l : Lsn). is_behind l (lsn_at_place g.at)) at_is ∙ lt_false _ _ (number_rises_not g.at said.group.at (up_to (cases_lt (length before) (length said.front))))
       where
         same_group : (h : Logged) → Some g ≡ Some h → g ≡ h
         same_group h e = cc
+
         up_to : (length before < length said.front) ⊎ (length said.front ≤ length before) → g.at ≤ said.group.at
         up_to (inl lower) = let order = places_order 0 gs (length before) (length said.front) g said.group rises this mine lower in omega (arith, order)
         up_to (inr upper) = let same : length before ≡ length said.front = omega (arith, upper, less) in
             let one : g ≡ said.group = same_group said.group (sym this ∙ ap (slice_get gs) same ∙ mine) in subst (λ (k : Logged). g.at ≤ k.at) one (omega arith)
+
     on : is_behind maker.at (lsn_at_place g.at) ≡ true → base_of name gs ≤ length before
     on behind = elim (cases_lt (length said.front) (length before)) [
       | inl more ↦ omega (arith, base, more)
       | inr less ↦ absurd (let e : true ≡ false = sym behind ∙ not_past less in (cc))
     ]
+
     off : is_behind maker.at (lsn_at_place g.at) ≡ false → length before < base_of name gs
     off ahead = elim (cases_lt (length said.front) (length before)) [
       | inl more ↦ absurd (let e : true ≡ false = sym (past_at more) ∙ ahead in (cc))

@@ -1,5 +1,5 @@
 -- What the last edit of a page tells of its redo.
-use Rattle.std.proofs.Common.{◌≡◌, ◌∙◌, ◌&&◌, ℕ, ◌+◌, ◌<◌, ◌≤◌, Bool, true, false, cond, List, [], ◌∷◌, ap, sym, refl, subst, arith, Option, None, Some}
+use Rattle.std.proofs.Common.{◌≡◌, ◌∙◌, ◌&&◌, ℕ, ◌+◌, ◌<◌, ◌≤◌, Bool, true, false, cond, List, [], ◌∷◌, ap, refl, arith, Option, None, Some}
 use Rattle.aria_page.specs.declared.edit.Edit.{Edit}
 use Rattle.aria_page.specs.declared.place.Part.{Part}
 use Rattle.aria_record.specs.Logged.{Logged}
@@ -48,6 +48,7 @@ module _ (name : List ℕ) (part : Part) (n : ℕ) where
       number_in : Option ℕ → ℕ
       number_in None = k
       number_in (Some j) = j
+
       by : Some k ≡ Some at → k ≤ at
       by same = let e : k ≡ at = ap number_in same in omega (arith, e)
   found_up low k at (g ∷ gs) rises less is = by (is_some_edit (edits g)) is (λ j before rest. found_up (g.at + 1) j at gs rises.1 before rest)

@@ -109,7 +109,7 @@ pub over_neutral : (opened : List ℕ → Bool) (known : ℕ → Bool) (frames :
     → s.page < max (length pages) (reach s.name s.part (life_of s.name gs).since) → FramesOver known frames pins place d gs i rs at next → IsNeutral opened gs (length gs) d (MayWrite (file s.name s.part) s.page page)
 over_neutral opened known frames pins place d gs i rs at next n h s page pages here there free sealed on current is within frame =
     front_step opened gs s.name s.part s.page page d pages h.lsn h.body (i - base_of s.name gs) on current is
-      (ap (redo s.name s.part s.page (front_of s.name gs i)) (ap (λ (c : Content). seen (page_or_zero s.page c)) (sym is))
-        ∙ ap (λ (spot : Option Spot). redone_at gs i spot (raw_at d spot)) (sym here)
-        ∙ frame_free known frames pins (λ k. raw_at d (place k)) (λ k. redone_at gs i (place k) (raw_at d (place k))) (λ k. edits_of gs i rs (place k)) at next n h there free frame)
-      sealed within
+    (ap (redo s.name s.part s.page (front_of s.name gs i)) (ap (λ (c : Content). seen (page_or_zero s.page c)) (sym is))
+    ∙ ap (λ (spot : Option Spot). redone_at gs i spot (raw_at d spot)) (sym here)
+    ∙ frame_free known frames pins (λ k. raw_at d (place k)) (λ k. redone_at gs i (place k) (raw_at d (place k))) (λ k. edits_of gs i rs (place k)) at next n h there free frame)
+    sealed within
