@@ -8,7 +8,7 @@ use Rattle.aria_cache.proofs.frames.Frames.edit.Goals as goal
 pub returns-in-Some-clause-held : goal.returns-in-Some-clause-held
 returns-in-Some-clause-held c =
     changed_front shown (edited_held (edits_of c.args.edits.now)) c.args.key c.args.self.now.cache.entries c.in-Some.frame.now _ c.len.ensures.valid.0 c.in-Some.ensures.value
-        (ap (λ (b : List ℕ). record { lsn = lsn_number c.in-Some.frame.now.lsn; body = b; dirty = true }) (rw c.deref_mut.ensures.value at c.apply_all.ensures.body))
+    (ap (λ (b : List ℕ). record { lsn = lsn_number c.in-Some.frame.now.lsn; body = b; dirty = true }) (rw c.deref_mut.ensures.value at c.apply_all.ensures.body))
 
 pub returns-in-Some-clause-count : goal.returns-in-Some-clause-count
 returns-in-Some-clause-count c = length-set_front shown c.args.key c.args.self.now.cache.entries _

@@ -7,7 +7,7 @@ use Rattle.aria_cache.proofs.frames.Frames.redo.Goals as goal
 pub returns-in-Some-clause-held : goal.returns-in-Some-clause-held
 returns-in-Some-clause-held c =
     changed_front shown (redone_held (lsn_number c.args.lsn) c.args.edits.now) c.args.key c.args.self.now.cache.entries c.in-Some.frame.now _ c.len.ensures.valid.0 c.in-Some.ensures.value
-        (ap (λ (b : List ℕ). record { lsn = lsn_number c.args.lsn; body = b; dirty = true }) (rw c.deref_mut.ensures.value at c.apply_edits.ensures))
+    (ap (λ (b : List ℕ). record { lsn = lsn_number c.args.lsn; body = b; dirty = true }) (rw c.deref_mut.ensures.value at c.apply_edits.ensures))
 
 pub returns-in-Some-clause-count : goal.returns-in-Some-clause-count
 returns-in-Some-clause-count c = length-set_front shown c.args.key c.args.self.now.cache.entries _
