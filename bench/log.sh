@@ -166,21 +166,12 @@ sums() {
     (cd "$1" && "$own/out/aria_log_bench" sum)
 }
 
-with_sqlite() {
-    rm -f base*
-    sqlite3 base < durable.sql > told
-}
-
 # As many groups as the plain program appends pages in that time.
-timed probe ./append 200
-each=$(($(cat times.probe) / 200 + 1))
-count=$((seconds * 1000000 / each))
-count=$((count > most ? most : count))
+count=$(count_in "$seconds" "$most")
 {
     echo 'pragma journal_mode = wal; pragma synchronous = full; create table t (id integer primary key, v integer);'
     seq "$count" | sed 's/.*/insert into t values (&,1);/'
 } > durable.sql
-sqlite=$(command -v sqlite3) || sqlite=
 
 with_log single force "$pages"
 with_log full append "$groups"

@@ -81,22 +81,13 @@ opening() {
     (cd "log.$1" && "$aria" run < /dev/null)
 }
 
-with_sqlite() {
-    rm -f base*
-    sqlite3 base < durable.sql > told
-}
-
 # As many durable inserts as the plain program makes in that time.
-timed probe ./append 200
-each=$(($(cat times.probe) / 200 + 1))
-count=$((seconds * 1000000 / each))
-count=$((count > most ? most : count))
+count=$(count_in "$seconds" "$most")
 { echo "$create"; rows "$count" | sed 's/^/insert t /'; } > durable
 {
     echo 'pragma journal_mode = wal; pragma synchronous = full; create table t (id integer primary key, v integer);'
     rows "$count" | sed 's/.*/insert into t values &;/'
 } > durable.sql
-sqlite=$(command -v sqlite3) || sqlite=
 
 for round in 1 2 3 4 5; do
     for kind in $small $large; do

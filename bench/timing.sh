@@ -1,5 +1,5 @@
 # What the benchmarks share, read by them in the folder that they run in: the program that appends 8192 bytes and syncs, as
-# often as it is told, and the times of runs, each the median of five.
+# often as it is told; the times of runs, each the median of five; and sqlite3.
 
 cat > append.c <<'E'
 #define _GNU_SOURCE
@@ -33,4 +33,20 @@ timed() {
 
 median() {
     sort -n "times.$1" | sed -n 3p
+}
+
+# count_in SECONDS MOST: how many pages the plain program appends in that time, at most so many
+count_in() {
+    timed probe ./append 200
+    local each=$(($(cat times.probe) / 200 + 1))
+    local count=$(($1 * 1000000 / each))
+    echo $((count > $2 ? $2 : count))
+}
+
+# sqlite3, if it is installed, and a run of it that executes the file `durable.sql`
+sqlite=$(command -v sqlite3) || sqlite=
+
+with_sqlite() {
+    rm -f base*
+    sqlite3 base < durable.sql > told
 }

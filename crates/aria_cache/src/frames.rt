@@ -139,6 +139,7 @@ impl Frames {
     /// Whether no page more fits.
     pub fn is_full(&self) -> bool
         ensures full { result ≡ false → count self.now < room self.now }
+        ensures none { result ≡ true → count self.now ≡ room self.now }
         ensures some { 0 < room self.now }
     {
         self.cache.len() == self.cache.cap().get()
@@ -183,6 +184,7 @@ impl Frames {
     /// A page to be taken out: one that needs no write where one stands near, else the victim.
     pub fn choose(&self) -> Option<u64>
         ensures free { IfSome result (λ key. is_pinned self.now key ≡ false) }
+        ensures some { result ≡ None → victim_of self.now ≡ None }
     {
         match self.spare(NEAR) {
             Some(key) => Some(key),
