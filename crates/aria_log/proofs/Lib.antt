@@ -27,7 +27,9 @@ pub mod GroupReads
 pub mod Entries
 pub mod Splitting
 pub mod RunReads
+pub mod Few
 pub mod Steps
+pub mod Walking
 pub mod PageCauses
 pub mod Looking
 pub mod FirstRun

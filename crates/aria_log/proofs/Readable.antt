@@ -1,26 +1,23 @@
 -- Logs that can be read: one that was opened, and one that runs.
-use Rattle.std.proofs.Common.{◌≡◌, ◌==◌, ◌||◌, ℕ, suc, ◌+◌, ◌-◌, ◌*◌, ◌/◌, ◌%◌, ◌<◌, ◌≤◌, Bool, true, false, cond, Some, List, [], ◌∷◌, ◌++◌, length, take, drop, map, replicate, refl, sym, ◌∙◌, ap, subst, arith, append_assoc, length-append}
+use Rattle.std.proofs.Common.{◌≡◌, ◌==◌, ◌||◌, ℕ, suc, ◌+◌, ◌-◌, ◌*◌, ◌/◌, ◌%◌, ◌<◌, ◌≤◌, Bool, true, false, cond, Some, List, [], ◌∷◌, ◌++◌, length, take, drop, map, replicate, refl, sym, ◌∙◌, ap, arith, append_assoc, length-append}
 use Rattle.std.specs.Prelude.{All}
 use Rattle.std.specs.List.{flat_map}
 use Rattle.std.proofs.lemmas.Bool.{cases_lt, eq-eqb, ne_eqb}
 use Rattle.std.proofs.lemmas.List.{append-nil, length-drop, length-replicate, length_push}
 use Rattle.std.proofs.lemmas.List.Elements.{All-head, All-tail}
-use Rattle.aria_page.specs.declared.lsn.Lsn.{Lsn}
 use Rattle.aria_record.specs.declared.record.Record.{Record}
 use Rattle.aria_record.specs.Groups.{IsGroup}
 use Rattle.aria_record.specs.Spelled.{group_bytes}
 use Rattle.aria_record.proofs.Records.{group_again}
-use Rattle.aria_host.specs.Folder.{Folder}
 use Rattle.aria_host.specs.State.{State}
 use Rattle.aria_log.specs.declared.log.Log.{Log as LogValue}
-use Rattle.aria_log.specs.declared.step.Step.TheVariants.{Group, Rest}
 use Rattle.aria_log.specs.LogPage.{log_body}
 use Rattle.aria_log.specs.Pieces.{Piece, Pieces, LogFiles, log_files, pieces_of, Stand, may_behind}
-use Rattle.aria_record.specs.Logged.{Logged, lsn_at_place}
+use Rattle.aria_record.specs.Logged.{Logged}
 use Rattle.aria_log.specs.Groups.{placed, groups_bytes, run_rest, groups_from}
 use Rattle.aria_log.specs.Log.{HoldRun, AreFull, joined, behind, Fills, IsAt, IsBaseOf, IsLog, IsOpened, place}
 use Rattle.aria_log.specs.Reading.{Whole, Entry, entries_at, entries_of_runs, entries_from, next_place, seen, IsReadable, StandsAt}
-use Rattle.aria_log.specs.Stepping.{filled, groups_of, end_page, IsStep}
+use Rattle.aria_log.specs.Stepping.{filled, groups_of, end_page}
 use Rattle.aria_log.proofs.LogPages.{take-log_body}
 use Rattle.aria_log.proofs.GroupLists.{length-group_bytes}
 use Rattle.aria_log.proofs.Fronts.{stand_same, stand-append, pieces_of_run, length-pieces_of_run, rest_of_run, rest_before}
@@ -287,33 +284,3 @@ stands_first log files base [] is empty = record {
       let at : base ≡ place log = omega (arith, is.end, is.based, (end_page_is log).0 none, none) in at ∙ sym (ap (next_place (place log)) (nothing_from base));
 }
 stands_first log files base (p ∷ ps) is empty = record { base = base; front = p ∷ ps; readable = is; entries = refl; here = sym (first_place (place log) base p ps is.based) }
-
--- What stands behind is read from where a step says.
-pub record StandsBehind (log : LogValue) (files : LogFiles) (after : Lsn) : Type 0 where
-  pub at : ℕ
-  pub before : List Entry
-  pub more : List Entry
-  pub stands : StandsAt log files at before more
-  pub after_is : after ≡ lsn_at_place at
-
-behind_entry : (log : LogValue) (files : LogFiles) (at : ℕ) (before : List Entry) (entry : Entry) (more : List Entry) (after : Lsn) → StandsAt log files at before (entry ∷ more) → after ≡ lsn_at_place (next_place (place log) more) → StandsBehind log files after
-behind_entry log files at before entry more after is e = record {
-  at = next_place (place log) more;
-  before = before ++ entry ∷ [];
-  more = more;
-  stands = record { base = is.base; front = is.front; readable = is.readable; entries = is.entries ∙ sym (append_assoc before (entry ∷ []) more); here = refl };
-  after_is = e;
-}
-
-pub behind_group : (log : LogValue) (files : LogFiles) (at : ℕ) (before more : List Entry) (here : Lsn) (group : List Record) (after : Lsn) → StandsAt log files at before more → IsStep (place log) more (Group here group after)
-    → StandsBehind log files after
-behind_group log files at before [] here group after is step = absurd step
-behind_group log files at before (entry ∷ more) here group after is step = behind_entry log files at before entry more after is step.after_is
-
-pub behind_rest : (log : LogValue) (files : LogFiles) (at : ℕ) (before more : List Entry) (here : Lsn) (bytes : ℕ) (after : Lsn) → StandsAt log files at before more → IsStep (place log) more (Rest here bytes after) → StandsBehind log files after
-behind_rest log files at before [] here bytes after is step = absurd step
-behind_rest log files at before (entry ∷ more) here bytes after is step = behind_entry log files at before entry more after is step.after_is
-
--- and from a folder that reads the same
-pub behind_at : (log : LogValue) (a b : State) (after after' : Lsn) → a.folder ≡ b.folder → after ≡ after' → StandsBehind log (log_files a.folder) after → StandsBehind log (log_files b.folder) after'
-behind_at log a b after after' folder same is = subst (λ (f : Folder). StandsBehind log (log_files f) after') folder (subst (λ (l : Lsn). StandsBehind log (log_files a.folder) l) same is)

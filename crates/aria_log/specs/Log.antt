@@ -143,6 +143,10 @@ LogKeeps old new base groups forced = LogMoments old new (HoldsFrom base groups 
 abbrev pub place : LogValue → ℕ
 place log = 8176 * log.number + log.used
 
+-- the pages that the log has once all of it is forced
+abbrev pub log_pages : LogValue → ℕ
+log_pages log = (place log + 8175) / 8176
+
 -- the file of the page behind a run was made
 pub record Makes (old new : State) (base : ℕ) (whole : List Piece) (parts : List (List ℕ)) (done : Bool) : Type 0 where
   pub writing : IsTrue done → IsWriting new base whole parts true

@@ -11,6 +11,7 @@ use Rattle.aria_log.specs.declared.reader.Reader.{Reader as ReaderValue}
 use Rattle.aria_log.specs.declared.step.Step.{Step}
 use Rattle.aria_log.specs.declared.step.Step.TheVariants.{Group, Rest, End}
 use Rattle.aria_log.specs.Pieces.{Piece, LogFiles, Stand}
+use Rattle.aria_record.specs.Groups.{IsGroup}
 use Rattle.aria_record.specs.Logged.{Logged, lsn_at_place}
 use Rattle.aria_log.specs.Groups.{run_rest}
 use Rattle.aria_log.specs.Log.{place}
@@ -32,6 +33,12 @@ IsStep end [] (Rest at bytes after) = ⊥
 IsStep end (entry ∷ more) End = ⊥
 IsStep end (entry ∷ more) (Group at group after) = IsEntry end entry more at after (Whole group)
 IsStep end (entry ∷ more) (Rest at bytes after) = IsEntry end entry more at after (Void bytes)
+
+-- a group that a step tells is one
+abbrev pub TellsGroup : Step → Type 0
+TellsGroup (Group at group after) = IsGroup group
+TellsGroup (Rest at bytes after) = ⊤
+TellsGroup End = ⊤
 
 -- ---- the groups among what stands in the log
 

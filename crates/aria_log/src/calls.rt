@@ -7,7 +7,7 @@ ghost use Rattle.aria_record.specs.Groups.{IsGroup};
 ghost use Rattle.aria_record.specs.Spelled.{group_bytes};
 ghost use Rattle.aria_log.specs.Pieces.{Piece};
 ghost use Rattle.aria_record.specs.Logged.{Logged, lsn_at_place};
-ghost use Rattle.aria_log.specs.Log.{place, behind, AreFull, IsLog, IsRunning, IsSameEnd, IsWriting, LogKeeps, Synced};
+ghost use Rattle.aria_log.specs.Log.{place, log_pages, behind, AreFull, IsLog, IsRunning, IsSameEnd, IsWriting, LogKeeps, Synced};
 ghost use Rattle.aria_log.specs.Spelling.{IsSpelled};
 ghost use Rattle.aria_log.specs.Causes.{HasAppendCause};
 
@@ -41,6 +41,9 @@ impl Log {
         ensures lsn { IfOk result (λ lsn. lsn ≡ lsn_at_place (place self.old)) }
         ensures low { place self.old ≤ 8176 * (2 ^ 34 - 1) }
         ensures place { OnOk result (place self.new ≡ place self.old + length group.now) }
+        // Whatever it answers, the log's end stays or moves on, by at most the group's bytes.
+        ensures rises { place self.old ≤ place self.new }
+        ensures most { place self.new ≤ place self.old + length group.now }
         ensures cause { HasAppendCause (place self.old + length group.now) self.old self.new host.old host.new (H.state host.old) (H.state host.new) result }
     {
         let place = self.place();
@@ -92,6 +95,8 @@ impl Log {
         ensures moments { IsTrue H.tells → (base : ℕ) (groups : List Logged) (forced : ℕ) → IsLog self.old (H.state host.old) base groups forced
             → LogKeeps (H.state host.old) (H.state host.new) base groups forced }
         ensures place { OnOk result (place self.new ≡ 8176 * (self.old.number + 1)) }
+        ensures pages { log_pages self.new ≡ log_pages self.old }
+        ensures rises { place self.old ≤ place self.new }
         ensures cause { HasDiskCause (H.state host.old) (H.state host.new) result }
     {
         self.write(host)?;
@@ -108,6 +113,9 @@ impl Log {
         ensures moments { IsTrue H.tells → (base : ℕ) (groups : List Logged) (forced : ℕ) → IsLog self.old (H.state host.old) base groups forced
             → LogKeeps (H.state host.old) (H.state host.new) base groups forced }
         ensures place { OnOk result (place self.new ≡ 8176 * (self.old.number + (if self.old.used == 0 then 0 else 1))) }
+        // Whatever it answers, the log has as many pages once it is forced, and its end isn't put back.
+        ensures pages { log_pages self.new ≡ log_pages self.old }
+        ensures rises { place self.old ≤ place self.new }
         ensures idle { self.old.used ≡ 0 → (self.new ≡ self.old) × (host.new ≡ host.old) × IsOk result }
         ensures cause { HasDiskCause (H.state host.old) (H.state host.new) result }
     {

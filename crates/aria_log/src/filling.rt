@@ -1,6 +1,6 @@
 //! Fills the pages of the log and writes them.
 
-ghost use Rattle.std.specs.Prelude.{◌≡◌, ◌≤◌, ◌<◌, ◌+◌, ◌-◌, ◌*◌, ◌/◌, ◌^◌, ◌++◌, [], ℕ, Bool, List, true, false, min, take, length, IsTrue, IsSome, is_ok, OnOk, IfOk, All};
+ghost use Rattle.std.specs.Prelude.{◌≡◌, ◌≤◌, ◌<◌, ◌+◌, ◌-◌, ◌*◌, ◌/◌, ◌^◌, ◌++◌, [], ℕ, Bool, List, true, false, min, take, length, IsTrue, IsSome, is_ok, OnOk, OnErr, IfOk, All};
 ghost use Rattle.aria_host.specs.Calls.{HasDiskCause};
 ghost use Rattle.aria_log.specs.Pieces.{Piece};
 ghost use Rattle.aria_log.specs.Log.{place, behind, Fills, IsAt, IsWriting, Wrote, Makes, HoldsRun, IsImage, IsStrict, Adds, LogMoments};
@@ -60,6 +60,7 @@ impl Log {
             → IsWriting (H.state host.old) base whole parts true → All (λ (bytes : List ℕ). length bytes ≡ 8176) parts → self.old.first ≡ base / 8176 + length whole
             → Fills self.old (behind base whole parts) held → 1 ≤ length held → Wrote self.new (H.state host.old) (H.state host.new) base whole parts held (is_ok result) }
         ensures ok { OnOk result ((self.new.number ≡ self.old.number + 1) × (self.new.used ≡ 0)) }
+        ensures failed { OnErr result (place self.new ≡ place self.old) }
         ensures first { self.new.first ≡ self.old.first }
         ensures cause { HasDiskCause (H.state host.old) (H.state host.new) result }
     {
@@ -84,6 +85,7 @@ impl Log {
             → IsWriting (H.state host.old) base whole parts self.old.there → All (λ (bytes : List ℕ). length bytes ≡ 8176) parts → self.old.first ≡ base / 8176 + length whole
             → Fills self.old (behind base whole parts) held → 1 ≤ length held → Wrote self.new (H.state host.old) (H.state host.new) base whole parts held (is_ok result) }
         ensures ok { OnOk result ((self.new.number ≡ self.old.number + 1) × (self.new.used ≡ 0)) }
+        ensures failed { OnErr result (place self.new ≡ place self.old) }
         ensures first { self.new.first ≡ self.old.first }
         ensures cause { HasDiskCause (H.state host.old) (H.state host.new) result }
     {
@@ -97,7 +99,8 @@ impl Log {
         requires at { IsTrue H.tells → (base : ℕ) × (whole : List Piece) × (text : List ℕ) × IsAt self.old (H.state host.old) base whole text }
         ensures made { IsTrue H.tells → (base : ℕ) (whole : List Piece) (text : List ℕ) → IsAt self.old (H.state host.old) base whole text
             → Adds self.new (H.state host.old) (H.state host.new) base whole text (is_ok result) }
-        ensures ok { OnOk result ((place self.new ≡ place self.old) × (self.new.used < 8176)) }
+        ensures ok { OnOk result (self.new.used < 8176) }
+        ensures place { place self.new ≡ place self.old }
         ensures first { self.new.first ≡ self.old.first }
         ensures cause { HasDiskCause (H.state host.old) (H.state host.new) result }
     {
@@ -117,6 +120,7 @@ impl Log {
         ensures moments { IsTrue H.tells → (base : ℕ) (whole : List Piece) (text : List ℕ) → IsAt self.old (H.state host.old) base whole text
             → LogMoments (H.state host.old) (H.state host.new) (IsImage base whole text) }
         ensures ok { IfOk result (λ count. (1 ≤ count) × (count ≤ length bytes.now) × (place self.new ≡ place self.old + count) × (1 ≤ self.new.used)) }
+        ensures failed { OnErr result (place self.new ≡ place self.old) }
         ensures first { self.new.first ≡ self.old.first }
         ensures cause { HasDiskCause (H.state host.old) (H.state host.new) result }
     {
@@ -134,6 +138,8 @@ impl Log {
         ensures moments { IsTrue H.tells → (base : ℕ) (whole : List Piece) (text : List ℕ) → IsAt self.old (H.state host.old) base whole text
             → LogMoments (H.state host.old) (H.state host.new) (IsStrict base whole (text ++ bytes.now)) }
         ensures ok { OnOk result ((place self.new ≡ place self.old + length bytes.now) × (1 ≤ self.new.used)) }
+        ensures rises { place self.old ≤ place self.new }
+        ensures most { place self.new ≤ place self.old + length bytes.now }
         ensures first { self.new.first ≡ self.old.first }
         ensures cause { HasDiskCause (H.state host.old) (H.state host.new) result }
     {

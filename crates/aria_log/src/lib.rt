@@ -19,7 +19,8 @@
 //!
 //! `fresh` is the log of a folder that has no log file. `find` finds a log that may be damaged, so that what stands before
 //! the damage can be read; it isn't started then. `first_run` says where the first whole run begins behind a place, for one
-//! who reads without a place to begin at. `next` gives a group also where it lies in the page that isn't written yet.
+//! who reads without a place to begin at. `next` gives a group also where it lies in the page that isn't written yet; a walk
+//! by it, from place to place, comes to the log's end within `MAX_ENTRIES` steps.
 //!
 //! `force` also makes room ahead: pages of zeros behind the log's end, so that the file needn't grow at each force. Zeros
 //! are no valid page, so they are no part of the log, and `start` leaves them.
@@ -47,6 +48,7 @@ mod step;
 
 pub use find::{Damage, Found};
 pub use log::Log;
+pub use next::MAX_ENTRIES;
 pub use reader::Reader;
 pub use step::Step;
 

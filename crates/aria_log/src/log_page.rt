@@ -16,7 +16,7 @@ const PAGE_AT: usize = 7;
 const MARK_AT: usize = 11;
 
 /// The mark of a page of the log.
-const MARK: u8 = 10;
+pub(crate) const MARK: u8 = 10;
 
 /// The place of the byte that says whether the page begins a run.
 pub(crate) const BEGINS_AT: usize = 12;

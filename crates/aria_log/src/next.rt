@@ -2,13 +2,14 @@
 
 ghost use Rattle.std.specs.Prelude.{◌≡◌, ◌≤◌, ◌<◌, ◌+◌, ◌-◌, ◌*◌, ◌/◌, ◌%◌, ◌^◌, ◌++◌, [], ℕ, List, Some, None, length, drop, IsTrue, IsSome, OnOk, IfOk};
 ghost use Rattle.aria_host.specs.Calls.{Unchanged};
+ghost use Rattle.aria_record.specs.Groups.{IsGroup};
 ghost use Rattle.aria_record.specs.Reading.{read_group};
 ghost use Rattle.aria_log.specs.Pieces.{Piece, LogFiles, log_files};
 ghost use Rattle.aria_record.specs.Logged.{lsn_at_place};
 ghost use Rattle.aria_log.specs.Groups.{run_rest};
 ghost use Rattle.aria_log.specs.Log.{place};
 ghost use Rattle.aria_log.specs.Reading.{Entry, entries_at, entries_of_runs, IsReadable, IsReader, StandsAt, seen};
-ghost use Rattle.aria_log.specs.Stepping.{shown, page_behind, IsLeft, EndsRun, StandsIn, IsStep, HasPageCause, HasNextCause};
+ghost use Rattle.aria_log.specs.Stepping.{shown, page_behind, IsLeft, EndsRun, StandsIn, IsStep, TellsGroup, HasPageCause, HasNextCause};
 
 use crate::log::Log;
 use crate::log_page::PLACES;
@@ -20,6 +21,10 @@ use aria_host::{Fault, Host};
 use aria_page::{Bytes, Lsn, PAGE_BYTES};
 use aria_record::Group;
 use std::alloc::Global;
+
+/// No log has as many entries, whole groups and void rests: each of them has a byte of its own. So a walk by `next` comes
+/// to the log's end within as many steps.
+pub const MAX_ENTRIES: u64 = 1 << 47;
 
 impl Log {
     // Where the next thing stands behind bytes that end here, in a run whose pages were read up to a place: there, or
@@ -44,9 +49,10 @@ impl Log {
         requires read { read ≤ place self.now }
         requires size { at + size ≤ read }
         requires page { length self.now.page ≡ 8192 }
-        ensures { (files : LogFiles) (entries : List Entry) (last : List Piece) (bytes rest : List ℕ) → IsLeft self.now files read last → read ≡ at + length bytes
+        ensures step { (files : LogFiles) (entries : List Entry) (last : List Piece) (bytes rest : List ℕ) → IsLeft self.now files read last → read ≡ at + length bytes
             → entries ≡ entries_at at (bytes ++ run_rest last) ++ entries_of_runs (page_behind read) last → read_group bytes ≡ Some (group, rest) → size + length rest ≡ length bytes
             → IsStep (place self.now) entries result }
+        ensures group { IsGroup group → TellsGroup result }
     {
         Step::Group {
             at: lsn_of_place(at),
@@ -60,8 +66,9 @@ impl Log {
         requires end { end ≤ place self.now }
         requires some { at < end }
         requires page { length self.now.page ≡ 8192 }
-        ensures { (files : LogFiles) (entries : List Entry) (last : List Piece) (bytes : List ℕ) → IsLeft self.now files end last → EndsRun last → end ≡ at + length bytes
+        ensures step { (files : LogFiles) (entries : List Entry) (last : List Piece) (bytes : List ℕ) → IsLeft self.now files end last → EndsRun last → end ≡ at + length bytes
             → entries ≡ entries_at at (bytes ++ run_rest last) ++ entries_of_runs (page_behind end) last → read_group bytes ≡ None → IsStep (place self.now) entries result }
+        ensures group { TellsGroup result }
     {
         Step::Rest {
             at: lsn_of_place(at),
@@ -86,6 +93,7 @@ impl Log {
         requires left { IsTrue H.tells → (rest : List Piece) × IsLeft self.now (log_files (H.state host.old).folder) (at + length bytes) rest }
         ensures step { IsTrue H.tells → (entries : List Entry) (rest : List Piece) → IsLeft self.now (log_files (H.state host.old).folder) (at + length bytes) rest
             → entries ≡ entries_at at (bytes ++ run_rest rest) ++ entries_of_runs (page_behind (at + length bytes)) rest → IfOk result (IsStep (place self.now) entries) }
+        ensures group { IfOk result TellsGroup }
         ensures reader { IsTrue H.tells → IsReader reader.new (log_files (H.state host.old).folder) }
         ensures same { IsTrue H.tells → Unchanged (H.state host.old) (H.state host.new) }
         ensures cause { HasNextCause H.tells self.now.number (H.state host.old) (H.state host.new) result }
@@ -116,6 +124,7 @@ impl Log {
         requires stands { IsTrue H.tells → (entries : List Entry) × (piece : Piece) × (rest : List Piece) × StandsIn self.now (log_files (H.state host.old).folder) at entries piece rest }
         ensures step { IsTrue H.tells → (entries : List Entry) (piece : Piece) (rest : List Piece) → StandsIn self.now (log_files (H.state host.old).folder) at entries piece rest
             → IfOk result (IsStep (place self.now) entries) }
+        ensures group { IfOk result TellsGroup }
         ensures reader { IsTrue H.tells → IsReader reader.new (log_files (H.state host.old).folder) }
         ensures same { IsTrue H.tells → Unchanged (H.state host.old) (H.state host.new) }
         ensures cause { HasNextCause H.tells self.now.number (H.state host.old) (H.state host.new) result }
@@ -150,6 +159,7 @@ impl Log {
         requires stands { IsTrue H.tells → (at : ℕ) × (before : List Entry) × (more : List Entry) × StandsAt self.now (log_files (H.state host.old).folder) at before more × (from ≡ lsn_at_place at) }
         ensures step { IsTrue H.tells → (at : ℕ) (before more : List Entry) → StandsAt self.now (log_files (H.state host.old).folder) at before more → from ≡ lsn_at_place at
             → IfOk result (IsStep (place self.now) more) }
+        ensures group { IfOk result TellsGroup }
         ensures reader { IsTrue H.tells → IsReader reader.new (log_files (H.state host.old).folder) }
         ensures same { IsTrue H.tells → Unchanged (H.state host.old) (H.state host.new) }
         ensures cause { HasNextCause H.tells self.now.number (H.state host.old) (H.state host.new) result }

@@ -1,29 +1,59 @@
 //! Reads the pages of the log's files.
 
-ghost use Rattle.std.specs.Prelude.{◌≡◌, ◌≤◌, ◌<◌, ◌-◌, ◌^◌, ◌/◌, ◌%◌, ◌==◌, ◌↔◌, if◌then◌else◌, None, Some, List, length, take, drop, is_some, IsTrue, OnOk, IfOk, IfSome};
+ghost use Rattle.std.specs.Prelude.{◌≡◌, ◌≤◌, ◌<◌, ◌-◌, ◌^◌, ◌/◌, ◌%◌, ◌==◌, ◌↔◌, if◌then◌else◌, None, Some, List, length, take, drop, replicate, is_some, IsTrue, OnOk, IfOk, IfSome};
 ghost use Rattle.std.specs.Option.{option_map_or};
 ghost use Rattle.aria_page.specs.Field.{Gives};
 ghost use Rattle.aria_host.specs.Calls.{HasDiskCause, Unchanged};
-ghost use Rattle.aria_log.specs.LogPage.{IsLogPage, read_log_page};
+ghost use Rattle.aria_log.specs.LogPage.{log_head, IsLogPage, read_log_page};
 ghost use Rattle.aria_log.specs.Pieces.{LogFiles, log_files, pieces_of};
 
 use crate::log_page::{
-    BEGINS_AT, BODY_AT, BODY_BYTES, NO_FILE, PAGES_END, USED_AT, file_of, page_of, seal,
+    BEGINS_AT, BODY_AT, BODY_BYTES, MARK, NO_FILE, PAGES_END, USED_AT, file_of, page_of,
 };
 use aria_host::{Fault, FileName, Host};
-use aria_page::{Page, same_bytes, u16_of};
+use aria_page::{Page, SUM_BYTES, flag, same_bytes, u16_bytes, u16_of, u24_bytes, u32_bytes};
 
-// Whether the page is the one that these bytes are written as.
-fn is_page_of(page: &Page, number: u64, begins: bool, bytes: &[u8]) -> bool
-    requires low { number < 2 ^ 34 - 1 }
-    requires some { 1 ≤ length bytes.now }
-    requires fits { length bytes.now ≤ 8176 }
-    ensures { IsTrue result ↔ IsLogPage number begins bytes.now page.now }
+/// The place of the head in a page of the log: behind the checksum.
+const HEAD_AT: usize = SUM_BYTES;
+
+/// The size of the head, in bytes.
+const HEAD_BYTES: usize = BODY_AT - HEAD_AT;
+
+// The head of the page of this number.
+#[tactic(auto, unfolding(crate::specs::LogPage::log_head, aria_page::specs::Number::number))]
+fn head_of(number: u64, begins: bool, used: u16) -> [u8; HEAD_BYTES]
+    requires { number < 2 ^ 34 }
+    ensures { result ≡ log_head number begins used }
 {
-    let mut again = Page::zero();
-    again.put(BODY_AT, bytes);
-    seal(&mut again, number, begins, bytes.len() as u16);
-    same_bytes(again.bytes(), page.bytes())
+    let [f0, f1, f2] = u24_bytes(file_of(number));
+    let [p0, p1, p2, p3] = u32_bytes(page_of(number));
+    let [u0, u1] = u16_bytes(used);
+    [f0, f1, f2, p0, p1, p2, p3, MARK, flag(begins), 0, u0, u1]
+}
+
+// Whether all of the bytes are zeros. A loop that doesn't stop early is compiled to one that takes many bytes at once.
+fn is_blank(bytes: &[u8]) -> bool
+    ensures { IsTrue result ↔ (bytes.now ≡ replicate (length bytes.now) 0) }
+{
+    let mut bits: u8 = 0;
+    for byte in bytes {
+        bits |= *byte;
+    }
+    bits == 0
+}
+
+// Whether the page is the one of this number whose body has so many used bytes. The checksum comes last: it takes longest.
+fn is_page_of(page: &Page, number: u64, begins: bool, used: u16) -> bool
+    requires low { number < 2 ^ 34 - 1 }
+    requires some { 1 ≤ used }
+    requires fits { used ≤ 8176 }
+    ensures { IsTrue result ↔ IsLogPage number begins (take used (drop 16 page.now)) page.now }
+{
+    let bytes = page.bytes();
+    let head = head_of(number, begins, used);
+    same_bytes(&bytes[HEAD_AT..BODY_AT], &head)
+        && is_blank(&bytes[BODY_AT + used as usize..])
+        && page.sums()
 }
 
 // Whether a valid page of this number begins a run, and how many bytes of its body are used; `None` where it isn't valid.
@@ -41,8 +71,7 @@ fn read_page_of(number: u64, page: &Page) -> Option<(bool, u16)>
         return None;
     }
     let begins = bytes[BEGINS_AT] == 1;
-    let body = &bytes[BODY_AT..BODY_AT + used as usize];
-    if is_page_of(page, number, begins, body) {
+    if is_page_of(page, number, begins, used) {
         Some((begins, used))
     } else {
         None

@@ -1,8 +1,9 @@
 //! Reads the bytes of a run, page after page.
 
-ghost use Rattle.std.specs.Prelude.{◌≡◌, ◌⊎◌, ◌≤◌, ◌<◌, ◌+◌, ◌*◌, ◌/◌, ◌%◌, ◌^◌, ◌++◌, true, List, ℕ, Some, length, take, drop, IsTrue, IsSome, OnOk, IfOk};
+ghost use Rattle.std.specs.Prelude.{◌≡◌, ◌⊎◌, ◌≤◌, ◌<◌, ◌+◌, ◌*◌, ◌/◌, ◌%◌, ◌^◌, ◌++◌, true, List, ℕ, Some, length, take, drop, IsTrue, IsSome, OnOk, IfOk, IfSome};
 ghost use Rattle.aria_host.specs.Calls.{Unchanged};
 ghost use Rattle.aria_host.specs.declared.fault.Fault.TheVariants.{LogDamaged as Damaged};
+ghost use Rattle.aria_record.specs.Groups.{IsGroup};
 ghost use Rattle.aria_record.specs.Reading.{Decodes};
 ghost use Rattle.aria_log.specs.Pieces.{Piece, log_files};
 ghost use Rattle.aria_log.specs.Log.{place};
@@ -37,7 +38,8 @@ fn are_enough(bytes: &[u8]) -> bool
 
 /// The group in front of the bytes, and how many bytes it takes; `None` where none stands there.
 pub(crate) fn group_of(alloc: Global, bytes: &[u8]) -> Result<Option<(Group, usize)>, AllocError>
-    ensures { IfOk result (Decodes bytes.now) }
+    ensures decodes { IfOk result (Decodes bytes.now) }
+    ensures group { IfOk result (λ found. IfSome found (λ x. IsGroup x.0)) }
 {
     decode_group(alloc, bytes)
 }

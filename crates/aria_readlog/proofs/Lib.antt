@@ -1,7 +1,6 @@
 pub mod Words
 pub mod Telling
 pub mod Listed
-pub mod Few
 pub mod Names
 pub mod Started
 pub mod Answering

@@ -1,11 +1,11 @@
 -- Entries that are listed, one after the other.
-use Rattle.std.proofs.Common.{◌≡◌, ℕ, ◌+◌, ◌^◌, ◌<◌, Bool, true, false, ◌&&◌, not, cond, List, [], ◌∷◌, ◌++◌, length, Option, None, Some, refl, sym, ◌∙◌, ap, subst, arith, append_assoc, zero-add}
+use Rattle.std.proofs.Common.{◌≡◌, ℕ, ◌+◌, ◌<◌, Bool, true, false, ◌&&◌, not, cond, List, [], ◌∷◌, ◌++◌, length, Option, None, Some, refl, sym, ◌∙◌, ap, subst, arith, append_assoc, zero-add}
 use Rattle.std.specs.List.{filter, flat_map}
 use Rattle.std.specs.String.{string_bytes}
 use Rattle.std.proofs.lemmas.List.{append-nil, length-append}
 use Rattle.std.proofs.lemmas.List.Elements.{filter-append}
 use Rattle.std.proofs.lemmas.Grind.{flat_map-append}
-use Rattle.aria_host.specs.State.{Folder, State}
+use Rattle.aria_host.specs.State.{State}
 use Rattle.aria_host.specs.Calls.{Unchanged}
 use Rattle.aria_host.proofs.Moments.{looks}
 use Rattle.aria_page.specs.declared.lsn.Lsn.{Lsn}
@@ -13,17 +13,18 @@ use Rattle.aria_record.specs.Logged.{lsn_at_place}
 use Rattle.aria_record.specs.declared.record.Record.{Record}
 use Rattle.aria_log.specs.declared.step.Step.TheVariants.{Group, Rest, End}
 use Rattle.aria_log.specs.declared.log.Log.{Log as LogValue}
+use Rattle.aria_log.specs.declared.next.TheConstants.{MAX_ENTRIES}
 use Rattle.aria_log.specs.Log.{place}
 use Rattle.aria_log.specs.Pieces.{LogFiles, log_files}
 use Rattle.aria_log.specs.Reading.{Entry, Standing, Whole, Void, next_place, StandsAt}
 use Rattle.aria_log.specs.Stepping.{IsStep}
+use Rattle.aria_log.proofs.Walking.{IsWalked, walk_begins, walk_stands, walk_next, walk_few, stands_same}
 use Rattle.aria_readlog.specs.declared.choice.Choice.{Choice}
 use Rattle.aria_readlog.specs.declared.listing.Listing.{Listing}
 use Rattle.aria_readlog.specs.Choice.{is_asked, is_whole, entry_lines, found_lines, is_within, asked, all_lines, group_count, rest_count, total_line}
 use Rattle.aria_readlog.specs.Line.{last_line}
 use Rattle.aria_readlog.specs.Telling.{Shows}
 use Rattle.aria_readlog.specs.Listing.{Lists, Tells, Adds, Takes, Steps}
-use Rattle.aria_readlog.proofs.Few.{few_entries}
 use Rattle.aria_readlog.proofs.Telling.{OnlyNow, still, shows_none, shows_then, shows_part, shows_after}
 
 -- ---- lines and counts of entries behind entries
@@ -236,51 +237,46 @@ part_more xs ys all old mid s0 s1 s2 is adds shows =
 pub record IsListed (log : LogValue) (at : Lsn) (count : ℕ) (all : List Entry) (old new : Listing) (s0 s1 : State) : Type 0 where
   pub before : List Entry
   pub left : List Entry
-  pub whole : all ≡ before ++ left
-  pub count_is : length before ≡ count
-  pub at_is : at ≡ lsn_at_place (next_place (place log) left)
+  pub walked : IsWalked log at count all before left
   pub adds : Adds before old new s0 s1
 
 pub listed_none : (log : LogValue) (files : LogFiles) (here : ℕ) (at : Lsn) (all : List Entry) (l : Listing) (s : State) → OnlyNow s → StandsAt log files here [] all → at ≡ lsn_at_place here
     → IsListed log at 0 all l l s s
 listed_none log files here at all l s only stands at_is =
-    record { before = []; left = all; whole = refl; count_is = refl; at_is = at_is ∙ ap lsn_at_place stands.here; adds = adds_none l s only }
+    record { before = []; left = all; walked = walk_begins log files here at [] all stands at_is; adds = adds_none l s only }
 
 -- the rest stands in the log
 pub left_stands : (log : LogValue) (here : ℕ) (at : Lsn) (count : ℕ) (all : List Entry) (old new : Listing) (s0 s1 : State) → StandsAt log (log_files s0.folder) here [] all
     → (listed : IsListed log at count all old new s0 s1) → StandsAt log (log_files s1.folder) (next_place (place log) listed.left) listed.before listed.left
 left_stands log here at count all old new s0 s1 stands listed =
-    subst (λ (f : Folder). StandsAt log (log_files f) (next_place (place log) listed.left) listed.before listed.left) (sym listed.adds.shows.folder)
-    (record { base = stands.base; front = stands.front; readable = stands.readable; entries = stands.entries ∙ listed.whole; here = refl })
+    stands_same log s0.folder s1.folder (next_place (place log) listed.left) listed.before listed.left listed.adds.shows.folder
+    (walk_stands log (log_files s0.folder) here at count [] all listed.before listed.left stands listed.walked)
 
 pub listed_more : (log : LogValue) (at after : Lsn) (count : ℕ) (all : List Entry) (old mid new : Listing) (s0 s1 s2 : State) → (listed : IsListed log at count all old mid s0 s1)
     → Steps (place log) listed.left (Some after) mid new s1 s2 → IsListed log after (count + 1) all old new s0 s2
-listed_more log at after count all old mid new s0 s1 s2 listed steps = by listed.left listed.whole steps
+listed_more log at after count all old mid new s0 s1 s2 listed steps = by listed.left listed.walked steps
   where
-    by : (left : List Entry) → all ≡ listed.before ++ left → Steps (place log) left (Some after) mid new s1 s2 → IsListed log after (count + 1) all old new s0 s2
-    by [] whole steps = absurd steps
-    by (entry ∷ left) whole steps = record {
+    by : (left : List Entry) → IsWalked log at count all listed.before left → Steps (place log) left (Some after) mid new s1 s2 → IsListed log after (count + 1) all old new s0 s2
+    by [] walked steps = absurd steps
+    by (entry ∷ left) walked steps = record {
       before = listed.before ++ (entry ∷ []);
       left = left;
-      whole = whole ∙ sym (append_assoc listed.before (entry ∷ []) left);
-      count_is = length-append listed.before (entry ∷ []) ∙ ap (λ (n : ℕ). n + 1) listed.count_is;
-      at_is = steps.0;
+      walked = walk_next log at after count all listed.before entry left walked steps.0;
       adds = adds_more listed.before (entry ∷ []) old mid new s0 s1 s2 listed.adds steps.1;
     }
 
 pub listed_all : (log : LogValue) (at : Lsn) (count : ℕ) (all : List Entry) (old mid new : Listing) (s0 s1 s2 : State) → (listed : IsListed log at count all old mid s0 s1)
     → Steps (place log) listed.left None mid new s1 s2 → Adds all old new s0 s2
-listed_all log at count all old mid new s0 s1 s2 listed steps = by listed.left listed.whole steps
+listed_all log at count all old mid new s0 s1 s2 listed steps = by listed.left listed.walked steps
   where
-    by : (left : List Entry) → all ≡ listed.before ++ left → Steps (place log) left None mid new s1 s2 → Adds all old new s0 s2
-    by [] whole steps = subst (λ (es : List Entry). Adds es old new s0 s2) (sym whole) (adds_more listed.before [] old mid new s0 s1 s2 listed.adds steps)
-    by (entry ∷ left) whole steps = absurd steps
+    by : (left : List Entry) → IsWalked log at count all listed.before left → Steps (place log) left None mid new s1 s2 → Adds all old new s0 s2
+    by [] walked steps = subst (λ (es : List Entry). Adds es old new s0 s2) (sym walked.whole) (adds_more listed.before [] old mid new s0 s1 s2 listed.adds steps)
+    by (entry ∷ left) walked steps = absurd steps
 
 -- not so many can be listed
 pub listed_few : (log : LogValue) (files : LogFiles) (here : ℕ) (at : Lsn) (count : ℕ) (all : List Entry) (old new : Listing) (s0 s1 : State) → StandsAt log files here [] all
-    → IsListed log at count all old new s0 s1 → count < 2 ^ 47
-listed_few log files here at count all old new s0 s1 stands listed =
-    omega (arith, few_entries log files here [] all stands, ap (λ (es : List Entry). length es) listed.whole, length-append listed.before listed.left, listed.count_is)
+    → IsListed log at count all old new s0 s1 → count < MAX_ENTRIES
+listed_few log files here at count all old new s0 s1 stands listed = walk_few log files here at count [] all listed.before listed.left stands listed.walked
 
 -- ---- a whole log
 
@@ -294,10 +290,6 @@ adds_after entries old new s0 s1 s2 only same adds = record {
   groups = adds.groups;
   rests = adds.rests;
 }
-
--- what stands in the log stands there while the folder is as it was
-pub stands_same : (log : LogValue) (old new : Folder) (here : ℕ) (before more : List Entry) → new ≡ old → StandsAt log (log_files old) here before more → StandsAt log (log_files new) here before more
-stands_same log old new here before more same stands = subst (λ (f : Folder). StandsAt log (log_files f) here before more) (sym same) stands
 
 -- a listing of nothing yet
 pub record IsNew (listing : Listing) (choice : Choice) : Type 0 where

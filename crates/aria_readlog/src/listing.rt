@@ -13,16 +13,13 @@ ghost use Rattle.aria_readlog.specs.Telling.{Shows, HasCause, IsReadFault};
 use crate::choice::Choice;
 use crate::line::{push_group, push_rest};
 use aria_host::{Fault, Host, Stream};
-use aria_log::{Log, Reader, Step};
+use aria_log::{Log, MAX_ENTRIES, Reader, Step};
 use aria_page::{Lsn, PAGE_BYTES};
 use aria_record::Record;
 use std::alloc::{AllocError, Global};
 
 /// The lines that are held are told once they have so many bytes.
 const PIECE_BYTES: usize = 65_536;
-
-/// No log has as many entries: they are fewer than its bytes.
-const MAX_ENTRIES: u64 = 1 << 47;
 
 /// A listing of the log: the lines that aren't told yet, and what was counted.
 #[derive(Drop)]

@@ -18,10 +18,9 @@ returns-then-used-lt1-clause-read c =
     ]
 
 pub returns-then-is_page_of-clause-read : goal.returns-then-is_page_of-clause-read
-returns-then-is_page_of-clause-read c =
-    fields_read c.args.number c.bytes-bytes.result.now c.args.page.now _ c.u16_of-used.result _ c.bytes-bytes.ensures.value refl (c.is_page_of.ensures.0 c.if-is_page_of.true)
+returns-then-is_page_of-clause-read c = fields_read c.args.number c.args.page.now c.u16_of-used.result _ (c.is_page_of.ensures.0 c.if-is_page_of.true)
 
 pub returns-else-is_page_of-clause-read : goal.returns-else-is_page_of-clause-read
 returns-else-is_page_of-clause-read c =
-    fields_other c.args.number c.bytes-bytes.result.now c.args.page.now _ c.u16_of-used.result _ c.bytes-bytes.ensures.value c.u16_of-used.ensures refl refl
+    fields_other c.args.number c.bytes-bytes.result.now c.args.page.now c.u16_of-used.result _ c.bytes-bytes.ensures.value c.u16_of-used.ensures refl
     (λ is. not_done c.is_page_of.result c.if-is_page_of.false (c.is_page_of.ensures.1 is))

@@ -5,7 +5,8 @@ use Rattle.aria_host.proofs.Moments.{looks}
 use Rattle.aria_log.specs.Reading.{entries_of_runs}
 use Rattle.aria_readlog.specs.Choice.{all_lines}
 use Rattle.aria_readlog.proofs.Telling.{on_err, shows_after}
-use Rattle.aria_readlog.proofs.Listed.{part_none, adds_after, stands_same}
+use Rattle.aria_log.proofs.Walking.{stands_same}
+use Rattle.aria_readlog.proofs.Listed.{part_none, adds_after}
 use Rattle.aria_readlog.proofs.displaying.list.Goals as goal
 
 pub returns-in_err-at-clause-part : goal.returns-in_err-at-clause-part

@@ -13,8 +13,11 @@ returns-in-Some-clause-step g c = λ told entries rest is are.
     let (last, more, e, on, enough) = c.in_ok-gather.ensures.gathered told rest is in
     let now : ReadsOn c.args.self.now files start (c.args.at + c.len.result) rest last more = subst (λ (k : ℕ). ReadsOn c.args.self.now files start (c.args.at + k) rest last more) (sym c.len.ensures) on in
     let there = across c.args.self.now files c.args.at start (c.args.at + c.len.result) rest last c.args.bytes more c.gather.new.bytes entries refl now e are in
-    let (behind, found, size) = rw c.as_slice.ensures at (rw c.in-Some.is at c.in_ok-group.ensures) in
-    c.group_step.ensures files entries last c.gather.new.bytes behind there.left there.now_is there.entries_are found size
+    let (behind, found, size) = rw c.as_slice.ensures at (rw c.in-Some.is at c.in_ok-group.ensures.decodes) in
+    c.group_step.ensures.step files entries last c.gather.new.bytes behind there.left there.now_is there.entries_are found size
+
+pub returns-in-Some-clause-group : goal.returns-in-Some-clause-group
+returns-in-Some-clause-group g c = c.group_step.ensures.group (rw c.in-Some.is at c.in_ok-group.ensures.group)
 
 pub returns-in_err-end-in-None-clause-same : goal.returns-in_err-end-in-None-clause-same
 returns-in_err-end-in-None-clause-same g c = λ told. unchanged_after _ _ _ (c.in_ok-gather.ensures.same told) (c.in_err-end-in-None.ensures.same told)
@@ -31,11 +34,11 @@ returns-clause-step g c = λ told entries rest is are.
     let (last, more, e, on, enough) = c.in_ok-gather.ensures.gathered told rest is in
     let now : ReadsOn c.args.self.now files start read rest last more = subst (λ (k : ℕ). ReadsOn c.args.self.now files start (c.args.at + k) rest last more) (sym c.len.ensures) on in
     let there = across c.args.self.now files c.args.at start read rest last c.args.bytes more run entries refl now e are in
-    let none = rw c.as_slice.ensures at (rw c.in-None.is at c.in_ok-group.ensures) in
+    let none = rw c.as_slice.ensures at (rw c.in-None.is at c.in_ok-group.ensures.decodes) in
     let (end, others, on', ends) = c.in_ok-end-in-None.ensures.end told last (left_at c.args.self.now old new read last (sym same) there.left) in
     let behind = across c.args.self.now files c.args.at read c.in_ok-end-in-None.end last end run others (run ++ others) entries there.now_is
     (reads_at c.args.self.now new old read c.in_ok-end-in-None.end last end others same on') refl there.entries_are in
-    c.rest_step.ensures files entries end (run ++ others) behind.left ends behind.now_is behind.entries_are (none_on run others last end enough on'.bytes_are none)
+    c.rest_step.ensures.step files entries end (run ++ others) behind.left ends behind.now_is behind.entries_are (none_on run others last end enough on'.bytes_are none)
 
 pub returns-clause-same : goal.returns-clause-same
 returns-clause-same g c = λ told. unchanged_after _ _ _ (c.in_ok-gather.ensures.same told) (c.in_ok-end-in-None.ensures.same told)

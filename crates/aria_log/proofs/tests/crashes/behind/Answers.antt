@@ -2,7 +2,7 @@ use Rattle.std.proofs.Common.{subst}
 use Rattle.aria_log.specs.declared.step.Step.{Step}
 use Rattle.aria_log.specs.Log.{place}
 use Rattle.aria_log.specs.Stepping.{IsStep}
-use Rattle.aria_log.proofs.Readable.{behind_group, behind_rest}
+use Rattle.aria_log.proofs.Walking.{behind_group, behind_rest}
 use Rattle.aria_log.proofs.tests.crashes.behind.Goals as goal
 
 pub returns-in-Group : goal.returns-in-Group

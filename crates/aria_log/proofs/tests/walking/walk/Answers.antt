@@ -3,7 +3,8 @@ use Rattle.aria_host.specs.MemHost.{mem_state}
 use Rattle.aria_log.specs.declared.tests.walking.Walked.{Walked}
 use Rattle.aria_log.specs.Pieces.{log_files}
 use Rattle.aria_log.proofs.Looking.{reader_at}
-use Rattle.aria_log.proofs.Readable.{StandsBehind, stands_first, behind_group, behind_rest, behind_at}
+use Rattle.aria_log.proofs.Readable.{stands_first}
+use Rattle.aria_log.proofs.Walking.{StandsBehind, behind_group, behind_rest, behind_at}
 use Rattle.aria_log.proofs.tests.walking.walk.Goals.{in-Group, in-Rest}
 use Rattle.aria_log.proofs.tests.walking.walk.Goals as goal
 

@@ -28,7 +28,7 @@ step-requires-clause-stands g c = λ told.
       listed.before,
       listed.left,
       left_stands c.args.log.now here c.loop-nth.at c.loop-nth._nth more c.args.self.now c.loop-nth.self (g.H.Host.state c.args.host.now) (g.H.Host.state c.loop-nth.host) stands listed,
-      listed.at_is,
+      listed.walked.at_is,
     )
 
 pub returns-in_err-step-clause-part : goal.returns-in_err-step-clause-part
@@ -36,10 +36,10 @@ returns-in_err-step-clause-part g c = λ told here more stands at.
     let listed = c.loop-nth.invariant.listed told here more stands at in
     on_err c.from_residual.result
     (part_more listed.before listed.left more c.args.self.now c.loop-nth.self (g.H.Host.state c.args.host.now) (g.H.Host.state c.loop-nth.host) (g.H.Host.state c.step.new.host)
-    listed.whole listed.adds
+    listed.walked.whole listed.adds
     (c.in_err-step.ensures.part told (next_place (place c.args.log.now) listed.left) listed.before listed.left
     (left_stands c.args.log.now here c.loop-nth.at c.loop-nth._nth more c.args.self.now c.loop-nth.self (g.H.Host.state c.args.host.now) (g.H.Host.state c.loop-nth.host) stands listed)
-    listed.at_is))
+    listed.walked.at_is))
 
 pub returns-in-None-clause-adds : goal.returns-in-None-clause-adds
 returns-in-None-clause-adds g c = λ told here more stands at.
@@ -49,7 +49,7 @@ returns-in-None-clause-adds g c = λ told here more stands at.
     (subst (λ (o : Option Lsn). Steps (place c.args.log.now) listed.left o c.loop-nth.self c.step.new.self (g.H.Host.state c.loop-nth.host) (g.H.Host.state c.step.new.host)) c.in-None.is
     (c.in_ok-step.ensures.steps told (next_place (place c.args.log.now) listed.left) listed.before listed.left
     (left_stands c.args.log.now here c.loop-nth.at c.loop-nth._nth more c.args.self.now c.loop-nth.self (g.H.Host.state c.args.host.now) (g.H.Host.state c.loop-nth.host) stands listed)
-    listed.at_is))
+    listed.walked.at_is))
 
 pub loop-nth-preserved : goal.loop-nth-preserved
 loop-nth-preserved g c = record {
@@ -62,7 +62,7 @@ loop-nth-preserved g c = record {
       (subst (λ (o : Option Lsn). Steps (place c.args.log.now) listed.left o c.loop-nth.self c.step.new.self (g.H.Host.state c.loop-nth.host) (g.H.Host.state c.step.new.host)) c.in-Some.is
       (c.in_ok-step.ensures.steps told (next_place (place c.args.log.now) listed.left) listed.before listed.left
       (left_stands c.args.log.now here c.loop-nth.at c.loop-nth._nth more c.args.self.now c.loop-nth.self (g.H.Host.state c.args.host.now) (g.H.Host.state c.loop-nth.host) stands listed)
-      listed.at_is));
+      listed.walked.at_is));
   disk = c.in_ok-step.ensures.cause.calm ∙ c.loop-nth.invariant.disk;
   tell = c.in_ok-step.ensures.cause.calm_too ∙ c.loop-nth.invariant.tell;
 }

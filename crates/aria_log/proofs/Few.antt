@@ -1,10 +1,11 @@
 -- A log has no more entries than bytes.
-use Rattle.std.proofs.Common.{◌≡◌, ◌==◌, ◌&&◌, not, ℕ, zero, suc, ◌+◌, ◌-◌, ◌*◌, ◌/◌, ◌%◌, ◌^◌, ◌<◌, ◌≤◌, nat_lt, Bool, true, false, cond, Option, None, Some, List, [], ◌∷◌, ◌++◌, length, take, drop, ap, arith}
+use Rattle.std.proofs.Common.{◌≡◌, ◌==◌, ◌&&◌, not, ℕ, zero, suc, ◌+◌, ◌-◌, ◌*◌, ◌/◌, ◌%◌, ◌<◌, ◌≤◌, nat_lt, Bool, true, false, cond, Option, None, Some, List, [], ◌∷◌, ◌++◌, length, take, drop, ap, arith}
 use Rattle.std.specs.Option.{option_map_or}
 use Rattle.std.proofs.lemmas.List.{length-append, length-take, length-drop}
 use Rattle.aria_record.specs.declared.record.Record.{Record}
 use Rattle.aria_record.specs.Reading.{read_group}
 use Rattle.aria_log.specs.declared.log.Log.{Log as LogValue}
+use Rattle.aria_log.specs.declared.next.TheConstants.{MAX_ENTRIES}
 use Rattle.aria_log.specs.Pieces.{Piece, Pieces, LogFiles, pieces_of, is_full, Stand}
 use Rattle.aria_log.specs.Groups.{run_rest}
 use Rattle.aria_log.specs.Reading.{Entry, Whole, void_rest, entries_within, entries_at, entries_of_runs, entries_from, seen, StandsAt}
@@ -84,7 +85,7 @@ from_few base (p ∷ ps) =
       runs_few (base / 8176 + 1) ps,
     )
 
-pub few_entries : (log : LogValue) (files : LogFiles) (here : ℕ) (before more : List Entry) → StandsAt log files here before more → length before + length more < 2 ^ 47
+pub few_entries : (log : LogValue) (files : LogFiles) (here : ℕ) (before more : List Entry) → StandsAt log files here before more → length before + length more < MAX_ENTRIES
 few_entries log files here before more stands =
     let size = length-append before more in
     let few = stand_total (seen log files) (stands.base / 8176) true stands.front (seen_short log files) stands.readable.stand in
