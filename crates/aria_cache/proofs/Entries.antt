@@ -1,12 +1,13 @@
 -- What the changes of an lru cache are to the map that its entries are.
-use Rattle.std.proofs.Common.{◌≡◌, ◌∙◌, ◌+◌, ◌-◌, ◌<◌, ℕ, Bool, true, false, cond, List, [], ◌∷◌, length, take, Option, None, Some, is_some, nat_eq, refl, sym, ap, subst, arith, inl, inr}
+use Rattle.std.proofs.Common.{◌≡◌, ◌∙◌, ◌+◌, ◌-◌, ◌<◌, ℕ, Bool, true, false, cond, not, List, [], ◌∷◌, length, take, Option, None, Some, is_some, nat_eq, refl, sym, ap, subst, arith, inl, inr}
 use Rattle.std.specs.Prelude.{option_map, slice_get, IsTrue, IsSome}
 use Rattle.std.specs.Option.{option_map_or}
 use Rattle.std.specs.Map.{lookup, lookup_entry, remove_entry, set_value, keys_of, update}
-use Rattle.std.specs.List.{IsDistinct}
+use Rattle.std.specs.List.{IsDistinct, filter}
 use Rattle.std.proofs.lemmas.Cmp.{nat_eq_equiv}
 use Rattle.std.proofs.lemmas.Bool.{cases_Bool, eqb-true}
 use Rattle.std.proofs.lemmas.List.{take_all}
+use Rattle.std.proofs.lemmas.Map.Entries.{lookup-filter-keys}
 use Rattle.std.proofs.lemmas.Map.{lookup-remove_entry, lookup-set_value, length-set_value}
 use Rattle.lru.proofs.Pairs.{lookup-lookup_entry}
 use Rattle.lru.proofs.CallerLemmas.{Contains-lookup_entry}
@@ -47,6 +48,19 @@ module _ {V W : Type 0} (see : V → W) where
   -- an entry goes to the front
   pub to_front : (k : ℕ) (es : List (ℕ × V)) → IsDistinct nat_eq (keys_of es) → map_of (promoted (nat_eq k) es) ≡ map_of es
   to_front k es distinct = λ i q. ap (option_map see) (first k q es (lookup_entry (nat_eq k) es) refl distinct) i
+
+  -- the entries of some keys are taken out
+  pub without_keys : (away : ℕ → Bool) (es : List (ℕ × V)) → map_of (filter (λ e. not (away e.0)) es) ≡ (λ q. cond (away q) None (map_of es q))
+  without_keys away es = λ i q. each q i
+    where
+      turned_round : (b : Bool) (o : Option W) → cond (not b) o None ≡ cond b None o
+      turned_round true o = refl
+      turned_round false o = refl
+
+      each : (q : ℕ) → map_of (filter (λ e. not (away e.0)) es) q ≡ cond (away q) None (map_of es q)
+      each q = ap (option_map see) (lookup-filter-keys (nat_eq q) (λ k. not (away k)) (not (away q)) (λ k same. ap (λ (n : ℕ). not (away n)) (sym (eqb-true q k same))) es)
+          ∙ seen_by (not (away q)) (lookup (nat_eq q) es) None
+          ∙ turned_round (away q) (map_of es q)
 
   less_one : (k : ℕ) (es : List (ℕ × V)) → IsTrue (is_some (lookup (nat_eq k) es)) → length (remove_entry (nat_eq k) es) + 1 ≡ length es
   less_one k [] there = absurd (cc)

@@ -1,5 +1,6 @@
--- Numbers of pages that never fall, and pages that stay but in one file.
+-- Numbers of pages that never fall, pages that come to be behind the log's end, and pages that stay but in one file.
 use Rattle.std.proofs.Common.{◌≡◌, ℕ, ◌≤◌, max, Bool, true, false, cond, arith, ap, subst, sym, ◌∙◌, List, [], ◌∷◌, ◌++◌, refl}
+use Rattle.std.specs.Prelude.{IsTrue}
 use Rattle.aria_page.specs.declared.edit.Edit.{Edit}
 use Rattle.aria_page.specs.declared.group.RedoKind.{RedoKind}
 use Rattle.aria_page.specs.declared.place.Part.{Part}
@@ -8,7 +9,7 @@ use Rattle.aria_host.specs.Folder.{same_file}
 use Rattle.aria_record.specs.declared.record.Record.{Record}
 use Rattle.aria_record.specs.declared.record.Record.TheVariants.{Redo}
 use Rattle.aria_cache.specs.PageState.{PageState, Bodies, Counts, file_of, record_applied, edits_applied, with_count, with_edits}
-use Rattle.aria_cache.specs.Calls.{Grows, StaysIn, Edits}
+use Rattle.aria_cache.specs.Calls.{Grows, FewerLate, StaysIn, Edits}
 
 pub grows_same : (old new : PageState) → new.counts ≡ old.counts → Grows old new
 grows_same old new is = record { counts = λ f. let at : new.counts f ≡ old.counts f = ap (λ (c : Counts). c f) is in omega (arith, at) }
@@ -22,6 +23,12 @@ more false n m = omega arith
 
 pub grows_edited : (old new : PageState) (file : FileName) (pages : ℕ) → new.counts ≡ with_count file pages old.counts → Grows old new
 grows_edited old new file pages is = record { counts = λ f. subst (λ (c : Counts). old.counts f ≤ c f) (sym is) (more (same_file file f) (old.counts f) pages) }
+
+pub fewer_same : (old new : PageState) → new.late ≡ old.late → FewerLate old new
+fewer_same old new is = record { late = λ f n late. subst (λ (l : FileName → ℕ → Bool). IsTrue (l f n)) is late }
+
+pub fewer_on : (a b c : PageState) → FewerLate a b → FewerLate b c → FewerLate a c
+fewer_on a b c first second = record { late = λ f n late. first.late f n (second.late f n late) }
 
 -- edits that come behind others are made last
 pub edits_applied-append : (rs ss : List Record) (start : Bodies) → edits_applied (rs ++ ss) start ≡ edits_applied ss (edits_applied rs start)

@@ -1,5 +1,5 @@
--- No two pages have one number.
-use Rattle.std.proofs.Common.{◌≡◌, ◌+◌, ◌*◌, ◌^◌, ◌<◌, ℕ, refl, arith}
+-- No two pages have one number, and it tells the page's slot.
+use Rattle.std.proofs.Common.{◌≡◌, ◌+◌, ◌*◌, ◌/◌, ◌^◌, ◌<◌, ℕ, refl, arith}
 use Rattle.aria_page.specs.declared.place.Part.{Part}
 use Rattle.aria_page.specs.declared.place.Part.TheVariants.{Keys, Rows}
 use Rattle.aria_cache.specs.declared.page_id.PageId.{PageId}
@@ -15,3 +15,10 @@ pub once : (at other : PageId) → at.page < 2 ^ 31 → other.page < 2 ^ 31 → 
 once at other low small is =
     let same = same_numbers at.slot other.slot at.part other.part at.page other.page low small is in
     λ i. record { slot = same.0 i; part = same.1 i; page = same.2 i }
+
+slot_of_number : (s : ℕ) (p : Part) (n : ℕ) → n < 2 ^ 31 → (s * 2 ^ 32 + part_key p + n) / 2 ^ 32 ≡ s
+slot_of_number s Keys n low = omega (arith, low)
+slot_of_number s Rows n low = omega (arith, low)
+
+pub slot_of_key : (at : PageId) → at.page < 2 ^ 31 → key_of at / 2 ^ 32 ≡ at.slot
+slot_of_key at low = slot_of_number at.slot at.part at.page low

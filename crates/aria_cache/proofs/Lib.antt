@@ -2,6 +2,7 @@ pub mod Applied
 pub mod Applying
 pub mod Blank
 pub mod Causing
+pub mod Dirty
 pub mod Entries
 pub mod Growing
 pub mod Keys
@@ -9,3 +10,4 @@ pub mod MemFiles
 pub mod MemNames
 pub mod MemStates
 pub mod Stamping
+pub mod Turning

@@ -84,7 +84,7 @@ pub record Loads (tells : Bool) (pages : ℕ) (old new : PageState) : Type 0 whe
   pub log : SameLog old new
   pub counts : new.counts ≡ old.counts
   pub bodies : IsTrue tells → new.bodies ≡ old.bodies
-  pub late : IsTrue tells → new.late ≡ old.late
+  pub late : IsTrue tells → FewerLate old new
   pub lent : new.lent ≤ old.lent + pages
 
 -- The open group may have used so many pages, edits and bytes of the log more.
@@ -101,7 +101,7 @@ pub record HasRoom (edits : ℕ) (s : PageState) : Type 0 where
 -- a page of a slot was edited, as part of the open group
 pub record Edits (logged : Bool) (kind : RedoKind) (slot : ℕ) (part : Part) (page : ℕ) (edits : List Edit) (old new : PageState) : Type 0 where
   pub bodies : new.bodies ≡ with_edits (file_of old slot part) page edits old.bodies
-  pub late : new.late ≡ old.late
+  pub late : FewerLate old new
   pub records : IsTrue logged → new.edits ≡ old.edits ++ Redo kind (old.name slot) part page edits ∷ []
 
 -- a group is begun, with no edit

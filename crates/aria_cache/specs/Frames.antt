@@ -1,8 +1,8 @@
 -- What frames hold: a map from the numbers of pages.
-use Rattle.std.specs.Prelude.{ℕ, Bool, true, false, not, nat_eq, if◌then◌else◌, length, List, reverse, map, slice_get, Option}
-use Rattle.std.specs.Option.{option_map}
-use Rattle.std.specs.List.{list_any, find}
-use Rattle.std.specs.Map.{lookup}
+use Rattle.std.specs.Prelude.{◌==◌, ℕ, ◌/◌, ◌^◌, Bool, true, false, not, nat_eq, if◌then◌else◌, length, List, [], ◌∷◌, ◌++◌, reverse, map, slice_get, Option, None}
+use Rattle.std.specs.Option.{option_map, option_map_or}
+use Rattle.std.specs.List.{list_any, filter, find}
+use Rattle.std.specs.Map.{keys_of, lookup}
 use Rattle.aria_page.specs.Page.{page_body}
 use Rattle.aria_page.specs.declared.edit.Edit.{Edit}
 use Rattle.aria_page.specs.Edit.{all_edited}
@@ -33,6 +33,27 @@ room frames = frames.cache.cap
 -- the page is pinned
 abbrev pub is_pinned : Frames → ℕ → Bool
 is_pinned frames k = list_any (nat_eq k) frames.pins.items
+
+-- the file may have another page than is held
+abbrev pub dirty_of : Option Held → Bool
+dirty_of frame = option_map_or (λ h. h.dirty) frame false
+
+-- the keys of the dirty ones of these entries
+abbrev pub dirty_keys : List (ℕ × Frame) → List ℕ
+dirty_keys es = keys_of (filter (λ e. e.1.dirty) es)
+
+-- the pages but for those of a slot
+abbrev pub without_slot : ℕ → (ℕ → Option Held) → ℕ → Option Held
+without_slot slot map = λ k. if k / 2 ^ 32 == slot then None else map k
+
+-- those of these entries that are of other slots
+abbrev pub others : ℕ → List (ℕ × Frame) → List (ℕ × Frame)
+others slot es = filter (λ e. not (e.0 / 2 ^ 32 == slot)) es
+
+-- The first entry is taken out if it is of the slot, and else goes last.
+abbrev pub turned : ℕ → List (ℕ × Frame) → List (ℕ × Frame)
+turned slot [] = []
+turned slot (e ∷ es) = if e.0 / 2 ^ 32 == slot then es else es ++ e ∷ []
 
 -- a page after edits, and one that ends a group
 abbrev pub edited_held : List Edit → Held → Held

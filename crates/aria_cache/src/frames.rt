@@ -1,13 +1,15 @@
 ghost use Rattle.std.specs.Prelude.{◌≡◌, ◌<◌, ◌≤◌, ◌+◌, ◌++◌, ◌∷◌, [], not, if◌then◌else◌, ℕ, IsTrue, nat_eq, length, is_some, option_map, All, true, IsSome, None, Some, false, IfOk, IfSome, option_copied, OnOk, OnErr};
 ghost use Rattle.std.specs.List.{list_any};
+ghost use Rattle.std.specs.List.Sorted.{IsStrictlyIncreasing};
 ghost use Rattle.std.specs.NonZero.{non_zero_usize_get};
 ghost use Rattle.std.specs.Map.{lookup, update};
-ghost use Rattle.aria_cache.specs.Frames.{Held, shown, held, front, count, room, is_pinned, victim_of, edited_held, cleaned, stamped, stamp_all, redone_held};
+ghost use Rattle.aria_cache.specs.Frames.{Held, shown, held, front, count, room, is_pinned, victim_of, dirty_of, without_slot, others, turned, edited_held, cleaned, stamped, stamp_all, redone_held};
 ghost use Rattle.aria_page.specs.Edit.{IsWithin, edited, all_edited};
 ghost use Rattle.aria_page.specs.Page.{page_body};
 ghost use Rattle.aria_page.specs.Lsn.{lsn_number};
 ghost use Rattle.aria_page.specs.Change.{edit_of, edits_of};
 
+use crate::page_id::PageId;
 use aria_page::{Change, Edit, Lsn, Page, apply, apply_all};
 use arrayvec::ArrayVec;
 use lru::LruCache;
@@ -125,6 +127,52 @@ impl Frames {
     {
         let _ = self.cache.len();
         self.cache.pop(&key)
+    }
+
+    // Looks at the page that was used last: one of the slot is taken out, and another counts as used longest ago from now on.
+    fn turn(&mut self, slot: u32)
+        ensures entries { self.new.cache.entries ≡ turned slot self.old.cache.entries }
+        ensures pins { self.new.pins ≡ self.old.pins }
+        ensures room { room self.new ≡ room self.old }
+    {
+        let Some((key, _frame)) = self.cache.peek_mru() else {
+            return;
+        };
+        let key = *key;
+        if PageId::slot_of(key) == slot {
+            drop(self.cache.pop_mru());
+        } else {
+            self.cache.demote(&key);
+        }
+    }
+
+    /// Takes out the pages of a slot. The others stay in their order of use.
+    pub fn remove_slot(&mut self, slot: u32)
+        ensures held { held self.new ≡ without_slot slot (held self.old) }
+        ensures order { self.new.cache.entries ≡ others slot self.old.cache.entries }
+        ensures pins { self.new.pins ≡ self.old.pins }
+        ensures room { room self.new ≡ room self.old }
+        ensures count { count self.new ≤ count self.old }
+    {
+        for _nth in 0..self.cache.len() {
+            self.turn(slot);
+        }
+    }
+
+    /// The numbers of the pages that are dirty, in rising order: by slots, then by parts, then by pages.
+    pub fn dirty(&self, alloc: Global) -> Result<Vec<u64>, AllocError>
+        ensures all { IfOk result (λ keys. (k : ℕ) → list_any (nat_eq k) keys.items ≡ dirty_of (held self.now k)) }
+        ensures rises { IfOk result (λ keys. IsStrictlyIncreasing keys.items) }
+    {
+        let _ = self.cache.len();
+        let mut keys = Vec::new(alloc);
+        for (key, frame) in self.cache.iter() {
+            if frame.dirty {
+                keys.push(*key)?;
+            }
+        }
+        keys.sort_unstable();
+        Ok(keys)
     }
 
     /// How many pages are held.

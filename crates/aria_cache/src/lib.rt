@@ -35,8 +35,8 @@
 //!
 //! and, in an open group, `SameLog` and `Spends`; one that only reads has `Loads` in their place. `specs/PageState.antt`
 //! says what contracts know of pages, `specs/Calls.antt` what calls do, `specs/Causes.antt` which fault has which cause.
-//! `proofs/Growing.antt` has the laws of `Grows` and `StaysIn`: name them once in the root of a crate above, by
-//! `#![tactic(auto, using(..))]`.
+//! `proofs/Growing.antt` has the laws of `Grows`, `FewerLate` and `StaysIn`: name them once in the root of a crate above,
+//! by `#![tactic(auto, using(..))]`.
 //!
 //! `MemPages` has pages in memory, without a log, for tests.
 #![tactic(auto)]

@@ -286,7 +286,7 @@ impl Pages for MemPages {
     fn group(&mut self) -> OpenGroup {
         self.in_group = true;
         self.edited = false;
-        OpenGroup { id: 0 }
+        OpenGroup::begin()
     }
 
     fn edit(
@@ -319,7 +319,7 @@ impl Pages for MemPages {
         _slot: u32,
         _last: &Last,
     ) -> Result<Lsn, Fault> {
-        let OpenGroup { id: _ } = group;
+        group.spend();
         self.in_group = false;
         if let Some(fault) = self.fault {
             return Err(fault);
@@ -328,7 +328,7 @@ impl Pages for MemPages {
     }
 
     fn leave(&mut self, group: OpenGroup) {
-        let OpenGroup { id: _ } = group;
+        group.spend();
         self.in_group = false;
     }
 

@@ -1,4 +1,4 @@
-ghost use Rattle.std.specs.Prelude.{◌≡◌, ◌<◌, ◌^◌};
+ghost use Rattle.std.specs.Prelude.{◌≡◌, ◌/◌, ◌<◌, ◌^◌};
 ghost use Rattle.aria_cache.specs.declared.page_id.PageId.{PageId as Id};
 ghost use Rattle.aria_cache.specs.Key.{key_of};
 
@@ -31,6 +31,13 @@ impl PageId {
         u64::from(self.slot) * SLOT + part + u64::from(self.page)
     }
 
+    /// The slot of the page of that number.
+    pub fn slot_of(key: u64) -> u32
+        ensures { result ≡ key / 2 ^ 32 }
+    {
+        (key / SLOT) as u32
+    }
+
     /// The page of that number. No two pages have one number.
     #[tactic(auto, using(crate::proofs::Keys::once))]
     pub fn of_key(key: u64) -> PageId
@@ -45,7 +52,7 @@ impl PageId {
             (Part::Rows, (low - PART) as u32)
         };
         PageId {
-            slot: (key / SLOT) as u32,
+            slot: PageId::slot_of(key),
             part,
             page,
         }

@@ -18,7 +18,19 @@ use std::alloc::Global;
 
 /// A group of edits that was begun. It is spent by `end` or `leave`.
 pub struct OpenGroup {
-    pub(crate) id: u8,
+    id: u8,
+}
+
+impl OpenGroup {
+    /// A group that is begun. For implementations of `Pages`.
+    pub fn begin() -> OpenGroup {
+        OpenGroup { id: 0 }
+    }
+
+    /// Spends the group. For implementations of `Pages`.
+    pub fn spend(self) {
+        let OpenGroup { id: _ } = self;
+    }
 }
 
 /// The pages of tables' files, as operations on rows and keys need them.

@@ -94,3 +94,36 @@ fn a_page_has_a_number(rt: HostRuntime) {
     let again = PageId::of_key(0x7_8000_0005);
     assert_eq!(rt; (again.slot, again.part, again.page), (7, Part::Rows, 5));
 }
+
+#[test]
+fn the_pages_of_a_slot_go_and_the_others_stay_in_order(rt: HostRuntime) -> Result<(), AllocError> {
+    let mut frames = Frames::new(
+        rt.alloc(),
+        NonZeroUsize::new(9).unwrap_or(NonZeroUsize::MIN),
+    )?;
+    for key in [
+        0x1_0000_0002,
+        0x2_8000_0001,
+        0x1_8000_0000,
+        0x3_0000_0000,
+        0x2_0000_0004u64,
+    ] {
+        hold(rt.alloc(), &mut frames, key)?;
+    }
+    for key in [0x3_0000_0000, 0x1_8000_0000, 0x1_0000_0002u64] {
+        frames.edit(key, &[Change::Set { at: 0, bytes: b"a" }]);
+    }
+    let dirty = frames.dirty(rt.alloc())?;
+    let three = [0x1_0000_0002, 0x1_8000_0000, 0x3_0000_0000u64];
+    assert_eq!(rt; dirty.as_slice(), three.as_slice());
+    frames.remove_slot(1);
+    assert_eq!(rt; frames.count(), 3);
+    let dirty = frames.dirty(rt.alloc())?;
+    assert_eq!(rt; dirty.as_slice(), [0x3_0000_0000u64].as_slice());
+    assert_eq!(rt; frames.victim(), Some(0x2_8000_0001));
+    frames.remove_slot(2);
+    assert_eq!(rt; frames.victim(), Some(0x3_0000_0000));
+    frames.remove_slot(4);
+    assert_eq!(rt; frames.count(), 1);
+    Ok(())
+}

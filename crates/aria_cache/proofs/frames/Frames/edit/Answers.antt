@@ -1,5 +1,5 @@
 use Rattle.aria_page.specs.Lsn.{lsn_number}
-use Rattle.std.proofs.Common.{◌≡◌, ap, ℕ, List, true}
+use Rattle.std.proofs.Common.{ap, ℕ, List, true}
 use Rattle.aria_page.specs.Change.{edits_of}
 use Rattle.aria_cache.specs.Frames.{shown, edited_held}
 use Rattle.aria_cache.proofs.Entries.{changed_front, length-set_front}

@@ -1,4 +1,4 @@
-use Rattle.std.proofs.Common.{◌≡◌, ap, ℕ, List, true}
+use Rattle.std.proofs.Common.{ap, ℕ, List, true}
 use Rattle.aria_page.specs.Lsn.{lsn_number}
 use Rattle.aria_cache.specs.Frames.{shown, redone_held}
 use Rattle.aria_cache.proofs.Entries.{changed_front, length-set_front}
