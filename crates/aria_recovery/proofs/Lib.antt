@@ -27,3 +27,5 @@ pub mod Placing
 pub mod Applying
 pub mod Naming
 pub mod Moving
+pub mod Groupwise
+pub mod Counted

@@ -6,6 +6,7 @@ use Rattle.aria_page.specs.declared.edit.Edit.{Edit}
 use Rattle.aria_page.specs.declared.place.Part.{Part}
 use Rattle.aria_host.specs.Folder.{Folder, same_file}
 use Rattle.aria_cache.specs.Frames.{Held}
+pub use Rattle.aria_cache.specs.Frames.{dirty_of}
 use Rattle.aria_record.specs.declared.record.Record.{Record}
 use Rattle.aria_record.specs.Logged.{Logged}
 use Rattle.aria_recovery.specs.Redo.{Seen, edits_on, is_some_edit, is_before, topped, redo}
@@ -17,9 +18,6 @@ Frames = ℕ → Option Held
 
 abbrev pub as_seen : Held → ℕ × List ℕ
 as_seen h = (h.lsn, h.body)
-
-abbrev pub dirty_of : Option Held → Bool
-dirty_of frame = option_map_or (λ h. h.dirty) frame false
 
 abbrev pub is_dirty : Frames → ℕ → Bool
 is_dirty frames k = dirty_of (frames k)
@@ -80,7 +78,16 @@ edits_of groups i records spot = option_map_or (λ s. if nat_lt i (base_of s.nam
 abbrev pub AreApart : Spots → Type 0
 AreApart place = (k j : ℕ) (s t : Spot) → place k ≡ Some s → place j ≡ Some t → same_spot s t ≡ true → nat_eq k j ≡ true
 
--- What frames hold over a folder, once so many groups in front are redone. These are records of the next group, which will have the number `at`.
-abbrev pub FramesOver : (ℕ → Bool) → Frames → (ℕ → Bool) → Spots → Folder → List Logged → ℕ → List Record → ℕ → ℕ → Type 0
-FramesOver known frames pins place d groups i records at next =
-    FrameOn known frames pins (λ k. raw_at d (place k)) (λ k. redone_at groups i (place k) (raw_at d (place k))) (λ k. edits_of groups i records (place k)) at next
+-- how many of the groups in front are redone on the page of each key
+abbrev pub Progress : Type 0
+Progress = ℕ → ℕ
+
+-- all of them, on each page
+abbrev pub all_of : List Logged → Progress
+all_of groups k = length groups
+
+-- What frames hold over a folder, once so many groups in front are redone on each page. These are records of the group that
+-- follows those, which will have the number `at`.
+abbrev pub FramesOver : (ℕ → Bool) → Frames → (ℕ → Bool) → Spots → Folder → List Logged → Progress → List Record → ℕ → ℕ → Type 0
+FramesOver known frames pins place d groups redone records at next =
+    FrameOn known frames pins (λ k. raw_at d (place k)) (λ k. redone_at groups (redone k) (place k) (raw_at d (place k))) (λ k. edits_of groups (redone k) records (place k)) at next

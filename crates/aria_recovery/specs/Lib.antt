@@ -6,3 +6,4 @@ pub mod Pending
 pub mod Noted
 pub mod Analysed
 pub mod Moves
+pub mod Midway
