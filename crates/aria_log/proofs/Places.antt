@@ -12,7 +12,7 @@ use Rattle.aria_log.specs.declared.log.Log.{Log as LogValue}
 use Rattle.aria_log.specs.Pieces.{Piece, Pieces, LogFiles, log_files, pieces_of, Stand, is_full}
 use Rattle.aria_record.specs.Logged.{Logged, lsn_at_place}
 use Rattle.aria_log.specs.Groups.{placed, groups_bytes, groups_within, groups_at, run_rest, groups_of_runs, groups_from}
-use Rattle.aria_log.specs.Log.{IsBaseOf, IsLog, place}
+use Rattle.aria_log.specs.Log.{IsBaseOf, IsLog, IsOpened, place}
 use Rattle.aria_log.proofs.GroupLists.{none_within, some_within, length-group_bytes}
 use Rattle.aria_log.proofs.Images.{next_some}
 use Rattle.aria_log.proofs.Later.{AreShort, are_short, group_rest, behind_length}
@@ -118,6 +118,11 @@ log_rising log s base groups forced is =
     (rising_append base (groups_from base is.whole) start (placed start is.fresh) (place log)
     (front_rising (log_files s.folder) base is.whole is.based is.at.writing.reads.stand)
     (rising_higher start (placed start is.fresh) (start + length (groups_bytes is.fresh)) (place log) (omega (arith, place_is log s base is.whole (groups_bytes is.fresh) is.at)) (placed_rising start is.fresh)))
+
+-- the same of a log that was opened, up to the end of its last page
+pub opened_rising : (log : LogValue) (s : State) (base : ℕ) (groups : List Logged) (last : ℕ) → (is : IsOpened log s base groups last) → AreRising base groups (8176 * (base / 8176 + length is.whole))
+opened_rising log s base groups last is =
+    subst (λ (l : List Logged). AreRising base l (8176 * (base / 8176 + length is.whole))) (sym is.groups_are) (front_rising (log_files s.folder) base is.whole is.based is.front.stand)
 
 -- ---- log sequence numbers
 

@@ -1,14 +1,20 @@
 -- What the last edit of a page tells of its redo.
-use Rattle.std.proofs.Common.{◌≡◌, ◌∙◌, ◌&&◌, ℕ, ◌+◌, ◌<◌, ◌≤◌, Bool, true, false, cond, List, [], ◌∷◌, ap, refl, arith, Option, None, Some}
+use Rattle.std.proofs.Common.{◌≡◌, ◌∙◌, ◌&&◌, inl, inr, ℕ, zero, suc, ◌+◌, ◌<◌, ◌≤◌, max, Bool, true, false, cond, nat_lt, List, [], ◌∷◌, drop, ap, sym, refl, subst, arith, Option, None, Some}
+use Rattle.std.proofs.lemmas.Bool.{cases_lt}
+use Rattle.aria_page.specs.Edit.{all_edited}
 use Rattle.aria_page.specs.declared.edit.Edit.{Edit}
 use Rattle.aria_page.specs.declared.place.Part.{Part}
 use Rattle.aria_record.specs.Logged.{Logged}
-use Rattle.aria_recovery.specs.Redo.{Seen, Rises, number_at, edits_on, is_some_edit, is_before, stepped, redo}
-use Rattle.aria_recovery.specs.Noted.{last_edit_in}
-use Rattle.aria_recovery.proofs.Comparing.{lt_false}
+use Rattle.aria_recovery.specs.Redo.{Seen, Rises, number_at, edits_on, is_some_edit, is_before, touches, reach, reach_on, stepped, redo}
+use Rattle.aria_recovery.specs.Noted.{last_edit_in, last_edit}
+use Rattle.aria_recovery.specs.Tables.{life_of}
+use Rattle.aria_recovery.specs.Frames.{base_of}
+use Rattle.aria_recovery.proofs.Behind.{since_behind}
+use Rattle.aria_recovery.proofs.Comparing.{lt_true, lt_false}
+use Rattle.aria_recovery.proofs.Framing.{reach_touched}
 use Rattle.aria_recovery.proofs.Holding.{stepped_same}
 use Rattle.aria_recovery.proofs.Numbering.{number_rises_not}
-use Rattle.aria_recovery.proofs.Redoing.{IsFrom}
+use Rattle.aria_recovery.proofs.Redoing.{IsFrom, redo_later}
 
 -- a page from a number on isn't before one up to it
 not_before : (low at : ℕ) (x : Seen) → low ≤ at → IsFrom at x → is_before low x ≡ false
@@ -69,3 +75,77 @@ module _ (name : List ℕ) (part : Part) (n : ℕ) where
           let up = found_up (g.at + 1) g.at at gs rises.1 (omega arith) rest in
           ap (redo name part n gs) (stepped_same (number_at g.at) (edits g) x (ap (λ (b : Bool). is_some_edit (edits g) && b) (not_before (number_at g.at) (number_at at) x (number_rises_not g.at at up) from) ∙ and_false (is_some_edit (edits g))))
           ∙ still (Some g.at) rest
+
+  -- the page has a log sequence number from this place on, if there is one
+  abbrev IsPast : Option ℕ → ℕ × List ℕ → Type 0
+  IsPast None x = Unit {0}
+  IsPast (Some k) x = number_at k ≤ x.0
+
+  -- A PAGE THAT REDO LEAVES AS IT IS has a log sequence number from its last edit on.
+  pub still_past : (gs : List Logged) (last : Option ℕ) (at : ℕ) (x : ℕ × List ℕ) → IsPast last x → last_edit_in name part n last gs ≡ Some at → redo name part n gs (Some x) ≡ Some x → number_at at ≤ x.0
+  still_past [] last at x past is still = subst (λ (o : Option ℕ). IsPast o x) is past
+  still_past (g ∷ gs) last at x past is still = by (edits g) refl is still (λ l from rest left. still_past gs l at x from rest left)
+    where
+      moved : (es : List Edit) (e : Edit) → (b : Bool) → b ≡ true → x.0 < number_at g.at → redo name part n gs (Some (cond b (number_at g.at, all_edited (e ∷ es) x.1) x)) ≡ Some x → ⊥
+      moved es e b on low same =
+          let from : IsFrom (number_at g.at) (redo name part n gs (Some (cond b (number_at g.at, all_edited (e ∷ es) x.1) x))) =
+          redo_later name part n gs (number_at g.at) (Some (cond b (number_at g.at, all_edited (e ∷ es) x.1) x)) (subst (λ (c : Bool). IsFrom (number_at g.at) (Some (cond c (number_at g.at, all_edited (e ∷ es) x.1) x))) (sym on) (omega arith)) in
+          let high : number_at g.at ≤ x.0 = subst (IsFrom (number_at g.at)) same from in
+          omega (arith, low, high)
+
+      by : (es : List Edit) → edits g ≡ es → last_edit_in name part n (cond (is_some_edit es) (Some g.at) last) gs ≡ Some at → redo name part n gs (stepped (number_at g.at) (edits g) (Some x)) ≡ Some x
+          → ((l : Option ℕ) → IsPast l x → last_edit_in name part n l gs ≡ Some at → redo name part n gs (Some x) ≡ Some x → number_at at ≤ x.0) → number_at at ≤ x.0
+      by [] same rest left more = more last past rest (sym (ap (λ (es : List Edit). redo name part n gs (stepped (number_at g.at) es (Some x))) same) ∙ left)
+      by (e ∷ es) same rest left more =
+          let here = sym (ap (λ (es : List Edit). redo name part n gs (stepped (number_at g.at) es (Some x))) same) ∙ left in
+          elim (cases_lt x.0 (number_at g.at)) [
+            | inl low ↦ absurd (moved es e (nat_lt x.0 (number_at g.at)) (lt_true x.0 (number_at g.at) low) low here)
+            | inr high ↦ more (Some g.at) high rest (sym (ap (λ (b : Bool). redo name part n gs (Some (cond b (number_at g.at, all_edited (e ∷ es) x.1) x))) (lt_false x.0 (number_at g.at) high)) ∙ here)
+          ]
+
+  -- a page that a group edits is one that the groups name
+  pub found_reach : (at : ℕ) (gs : List Logged) → last_edit_in name part n None gs ≡ Some at → n < reach name part gs
+  found_reach at [] is = absurd (cc)
+  found_reach at (g ∷ gs) is = by (touches name part n g.group) refl is (λ rest. found_reach at gs rest)
+    where
+      by : (b : Bool) → touches name part n g.group ≡ b → last_edit_in name part n (cond b (Some g.at) None) gs ≡ Some at → (last_edit_in name part n None gs ≡ Some at → n < reach name part gs) → n < max (reach_on name part g.group) (reach name part gs)
+      by true on rest more = reach_touched name part n [] gs g on
+      by false off rest more = let low = more rest in omega (arith, low)
+
+rises_lower : (low low' : ℕ) (gs : List Logged) → low' ≤ low → Rises low gs → Rises low' gs
+rises_lower low low' [] le rises = tt
+rises_lower low low' (g ∷ gs) le rises = (omega (arith, le, rises.0), rises.1)
+
+rises_drop : (k : ℕ) (gs : List Logged) → Rises 0 gs → Rises 0 (drop k gs)
+rises_drop zero gs rises = rises
+rises_drop (suc k) [] rises = tt
+rises_drop (suc k) (g ∷ gs) rises = rises_drop k gs (rises_lower (g.at + 1) 0 gs (omega arith) rises.1)
+
+-- the groups that count for a name rise
+pub rises_since : (name : List ℕ) (gs : List Logged) → Rises 0 gs → Rises 0 (life_of name gs).since
+rises_since name gs rises = subst (Rises 0) (since_behind name gs) (rises_drop (base_of name gs) gs rises)
+
+-- the page stands from its last edit on; one that no group edits, and one that isn't sound, does too
+abbrev pub IsFresh : Option ℕ → Seen → Type 0
+IsFresh None x = Unit {0}
+IsFresh (Some at) x = IsFrom (number_at at) x
+
+-- REDO LEAVES A PAGE AS IT IS exactly where that stands from its last edit on.
+pub fresh_still : (name : List ℕ) (part : Part) (n : ℕ) (gs : List Logged) (x : Seen) → Rises 0 gs → IsFresh (last_edit name part n gs) x → redo name part n (life_of name gs).since x ≡ x
+fresh_still name part n gs x rises fresh = by (last_edit name part n gs) refl fresh
+  where
+    by : (o : Option ℕ) → last_edit name part n gs ≡ o → IsFresh o x → redo name part n (life_of name gs).since x ≡ x
+    by None is from = untouched_still name part n (life_of name gs).since x is
+    by (Some at) is from = past_still name part n 0 at None (life_of name gs).since x (rises_since name gs rises) is from
+
+pub still_fresh : (name : List ℕ) (part : Part) (n : ℕ) (gs : List Logged) (x : Seen) → redo name part n (life_of name gs).since x ≡ x → IsFresh (last_edit name part n gs) x
+still_fresh name part n gs None still = by (last_edit name part n gs)
+  where
+    by : (o : Option ℕ) → IsFresh o None
+    by None = tt
+    by (Some at) = tt
+still_fresh name part n gs (Some x) still = by (last_edit name part n gs) refl
+  where
+    by : (o : Option ℕ) → last_edit name part n gs ≡ o → IsFresh o (Some x)
+    by None is = tt
+    by (Some at) is = still_past name part n (life_of name gs).since None at x tt is still
