@@ -18,7 +18,7 @@ use Rattle.aria_keypage.specs.StoredItem.{StoredItem, stored_at}
 use Rattle.aria_keypage.proofs.Fitting.{behind-size}
 use Rattle.aria_keypage.proofs.Grown.{left-low}
 use Rattle.aria_keypage.proofs.Middle.{left_size, Passed, half-size, left-next, item-some, middle-is, left-least, left-most}
-use Rattle.aria_keypage.proofs.Patch.{patch-changes}
+use Rattle.aria_keypage.proofs.Patching.{patch-changes}
 use Rattle.aria_keypage.proofs.Read.{read-packed}
 use Rattle.aria_keypage.proofs.Spliced.{item-bytes-le, all-take, all-drop, drop-at, packed-cut}
 use Rattle.aria_keypage.proofs.Stored.{shared-lt}

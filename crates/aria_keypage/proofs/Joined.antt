@@ -10,7 +10,7 @@ use Rattle.aria_keypage.specs.Content.{Content, width, first_bytes, item_bytes, 
 use Rattle.aria_keypage.specs.Change.{Changes, patch}
 use Rattle.aria_keypage.specs.Merge.{taken_over, joined}
 use Rattle.aria_keypage.proofs.Counted.{all-append}
-use Rattle.aria_keypage.proofs.Patch.{patch-changes}
+use Rattle.aria_keypage.proofs.Patching.{patch-changes}
 use Rattle.aria_keypage.proofs.Spliced.{packed-behind}
 
 -- all that is taken over can be stored

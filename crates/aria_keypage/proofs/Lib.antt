@@ -5,7 +5,7 @@ pub mod Counted
 pub mod Read
 pub mod Options
 pub mod Sought
-pub mod Patch
+pub mod Patching
 pub mod Spliced
 pub mod Grown
 pub mod Next
@@ -15,3 +15,6 @@ pub mod Fitting
 pub mod Middle
 pub mod Divided
 pub mod Child
+pub mod Between
+pub mod Sizes
+pub mod Fans

@@ -3,6 +3,7 @@ use Rattle.std.proofs.Common.{◌≡◌, ℕ, zero, suc, ◌+◌, ◌-◌, ◌�
 use Rattle.std.specs.List.{AllByRecursion, sum_by}
 use Rattle.std.proofs.lemmas.List.{take-append-drop, drop_more, drop_all, length-append, length-drop}
 use Rattle.aria_page.specs.declared.edit.Edit.{Edit}
+use Rattle.aria_page.specs.Edit.{edit_bytes}
 use Rattle.aria_page.specs.Number.{number}
 use Rattle.aria_page.proofs.Numbers.{length-number, number-one}
 use Rattle.aria_keypage.specs.declared.kind.Kind.{Kind}
@@ -11,10 +12,10 @@ use Rattle.aria_keypage.specs.Item.{Item, IsItem, item_at, entry_before}
 use Rattle.aria_keypage.specs.Packed.{common_length, shared, packed_item, packed, IsLeft}
 use Rattle.aria_keypage.specs.Pieces.{first_packed, rest_packed}
 use Rattle.aria_keypage.specs.Content.{Content, width, first_bytes, item_bytes, IsContent}
-use Rattle.aria_keypage.specs.Change.{Changes, edit_bytes, with_item, without_item, inserted_bytes, removed_bytes, patch}
+use Rattle.aria_keypage.specs.Change.{Changes, with_item, without_item, inserted_bytes, removed_bytes, patch}
 use Rattle.aria_keypage.proofs.Shares.{common-both, common-turn}
 use Rattle.aria_keypage.proofs.Counted.{last_entry, packed-append, all-append}
-use Rattle.aria_keypage.proofs.Patch.{patch-changes}
+use Rattle.aria_keypage.proofs.Patching.{patch-changes}
 use Rattle.aria_keypage.proofs.Stored.{shared-le, shared-lt}
 
 -- packed items are the first and the rest
@@ -201,7 +202,8 @@ pub rest-at : (width : ℕ) (xs : List Item) (at : ℕ) → at < length xs → r
 unfolding rest_packed
 rest-at width xs at h = ap (rest_packed width) (drop-at xs at h) ∙ ap (λ (k : ℕ). packed width (entry_before xs k) (drop k xs)) (sym (add-one at))
 
-width-le : (kind : Kind) → width kind ≤ 5
+-- a target or a child takes at most 5 bytes
+pub width-le : (kind : Kind) → width kind ≤ 5
 width-le Leaf = omega arith
 width-le Node = omega arith
 

@@ -1,33 +1,22 @@
 -- Changes of a key page, as edits of its body.
-use Rattle.std.specs.Prelude.{◌≡◌, ℕ, ◌+◌, List, [], ◌∷◌, length, drop}
+use Rattle.std.specs.Prelude.{◌≡◌, ℕ, ◌+◌, ◌≤◌, List, [], ◌∷◌, length, drop}
 use Rattle.std.specs.List.{AllByRecursion, insert, remove}
 use Rattle.aria_page.specs.declared.edit.Edit.{Edit}
-use Rattle.aria_page.specs.declared.edit.Edit.TheVariants.{Set, Shift, Whole}
-use Rattle.aria_page.specs.Edit.{IsWithin, edited}
+use Rattle.aria_page.specs.declared.edit.Edit.TheVariants.{Set, Shift}
+use Rattle.aria_page.specs.Edit.{IsWithin, all_edited}
 use Rattle.aria_page.specs.Number.{number}
 use Rattle.aria_page.specs.declared.page.TheConstants.{BODY_BYTES}
-use Rattle.aria_keypage.specs.declared.key_page.TheConstants.{ITEMS_AT, SIZE_AT}
+use Rattle.aria_keypage.specs.declared.key_page.TheConstants.{ITEMS_AT, ITEM_BYTES_MAX, SIZE_AT}
 use Rattle.aria_keypage.specs.declared.kind.Kind.TheVariants.{Leaf, Node}
 use Rattle.aria_keypage.specs.Item.{Item, entry_before}
 use Rattle.aria_keypage.specs.Packed.{packed_item}
 use Rattle.aria_keypage.specs.Pieces.{first_packed}
 use Rattle.aria_keypage.specs.Content.{Content, width, Spells}
 
--- the body after all edits, the first of them first
-abbrev pub edited_by : List Edit → List ℕ → List ℕ
-edited_by [] body = body
-edited_by (edit ∷ edits) body = edited_by edits (edited edit body)
-
--- how many bytes an edit brings
-abbrev pub edit_bytes : Edit → ℕ
-edit_bytes (Set at bytes) = length bytes
-edit_bytes (Shift at len to) = 0
-edit_bytes (Whole body) = length body
-
 -- the edits make each body that spells the one content into one that spells the other
 pub record Changes (edits : List Edit) (before after : Content) : Type 0 where
   pub within : AllByRecursion IsWithin edits
-  pub body : (body : List ℕ) → length body ≡ BODY_BYTES → Spells body before → Spells (edited_by edits body) after
+  pub body : (body : List ℕ) → length body ≡ BODY_BYTES → Spells body before → Spells (all_edited edits body) after
 
 -- the page with one more item at a position
 abbrev pub with_item : Content → ℕ → Item → Content
@@ -41,6 +30,12 @@ without_item c at = record c { items = remove c.items at }
 abbrev pub patch : ℕ → ℕ → ℕ → List ℕ → List Edit
 patch before old behind bytes =
     Shift (ITEMS_AT + before + old) behind (ITEMS_AT + before + length bytes) ∷ Set (ITEMS_AT + before) bytes ∷ Set SIZE_AT (number 2 (before + length bytes + behind)) ∷ []
+
+-- item bytes fit in a page before and after, and their new number is spelled so
+pub record IsPatch (before old behind : ℕ) (bytes size : List ℕ) : Type 0 where
+  pub old_fits : before + old + behind ≤ ITEM_BYTES_MAX
+  pub new_fits : before + length bytes + behind ≤ ITEM_BYTES_MAX
+  pub size_is : size ≡ number 2 (before + length bytes + behind)
 
 -- a whole body that spells this
 pub record IsBody (body : List ℕ) (c : Content) : Type 0 where

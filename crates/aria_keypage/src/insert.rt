@@ -2,20 +2,20 @@
 
 ghost use Rattle.std.specs.Prelude.{◌≡◌, ℕ, ◌+◌, ◌<◌, ◌≤◌, ◌^◌, ◌++◌, List, length, drop, IsTrue, ◌↔◌, IfOk, IfSome, MatchOption};
 ghost use Rattle.std.specs.List.{sum_by};
+ghost use Rattle.aria_page.specs.Edit.{edit_bytes};
 ghost use Rattle.aria_keypage.specs.declared.item.TheConstants.{ENTRY_MAX};
 ghost use Rattle.aria_keypage.specs.declared.key_page.TheConstants.{ITEM_BYTES_MAX};
 ghost use Rattle.aria_keypage.specs.Item.{entry_before};
 ghost use Rattle.aria_keypage.specs.Packed.{IsLeft};
 ghost use Rattle.aria_keypage.specs.Pieces.{first_packed, rest_packed};
 ghost use Rattle.aria_keypage.specs.Content.{width, item_bytes};
-ghost use Rattle.aria_keypage.specs.Change.{Changes, edit_bytes, with_item, inserted_bytes};
+ghost use Rattle.aria_keypage.specs.Change.{Changes, with_item, inserted_bytes};
 
-use crate::edit::patch;
+use crate::edit::{Patch, patch_of};
 use crate::entry::capped;
 use crate::find::{against, common_at};
 use crate::item::{entry_behind, push_item, push_stored, stored_at};
 use crate::key_page::{ITEM_BYTES_MAX, KeyPage};
-use aria_page::{Edit, List};
 use std::alloc::{AllocError, Global};
 
 impl<'a> KeyPage<'a> {
@@ -76,7 +76,7 @@ impl<'a> KeyPage<'a> {
         at: usize,
         entry: &[u8],
         target: u64,
-    ) -> Result<Option<List<Edit>>, AllocError>
+    ) -> Result<Option<Patch>, AllocError>
         requires at { at ≤ length self.now.items }
         requires entry { length entry.now ≤ ENTRY_MAX }
         requires target { target < 256 ^ width self.now.kind }
@@ -93,7 +93,6 @@ impl<'a> KeyPage<'a> {
         if front + bytes.len() + behind.len() > ITEM_BYTES_MAX {
             return Ok(None);
         }
-        let edits = patch(alloc, front, rest.len() - behind.len(), behind.len(), bytes)?;
-        Ok(Some(edits))
+        Ok(Some(patch_of(front, rest.len() - behind.len(), behind.len(), bytes)))
     }
 }

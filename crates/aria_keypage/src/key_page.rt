@@ -222,7 +222,8 @@ impl<'a> KeyPage<'a> {
 
     /// The position of the first entry that isn't below the given one, and whether they are the same.
     pub fn find(&self, entry: &[u8]) -> (usize, bool)
-        ensures { IsPosition entry.now self.now.items result.0 result.1 }
+        ensures position { IsPosition entry.now self.now.items result.0 result.1 }
+        ensures within { result.0 ≤ length self.now.items }
     {
         find_in(self.items, self.kind.width(), self.count, entry)
     }

@@ -5,10 +5,11 @@
 //! an entry and where it leads. A page spells one content at most.
 //!
 //! The readers and `find` tell of that list. `find` takes no memory and puts no entry together. `insert`
-//! and `remove` walk the page once, and give edits that make any page of the old list into one of the changed list, and `join` those
-//! that make it take over the items of the page to its right. `split` divides the items of a page in the
-//! middle of their bytes, and `share` those of two pages side by side: a `Split` is the edits of the left page,
-//! the body of the right one and the entry between them. `root_leaf` and `root_node` give whole bodies.
+//! and `remove` walk the page once, and give a `Patch` that makes any page of the old list into one of the
+//! changed list, and `join` one that makes it take over the items of the page to its right. A `Patch` owns the
+//! new item bytes and lends them as three edits. `split` divides the items of a page in the middle of their
+//! bytes, and `share` those of two pages side by side: a `Split` is the patch of the left page, the body of the
+//! right one and the entry between them. `root_leaf` and `root_node` give whole bodies.
 //!
 //! Nothing here asks that the entries rise, which is the tree's affair. A node's first child counts among its
 //! item bytes.
@@ -27,6 +28,7 @@ mod root;
 mod split;
 mod walk;
 
+pub use edit::Patch;
 pub use item::ENTRY_MAX;
 pub use key_page::{ITEM_BYTES_LOW, ITEM_BYTES_MAX, KeyPage};
 pub use kind::{Kind, LEAF, NODE};

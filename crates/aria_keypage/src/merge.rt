@@ -2,21 +2,21 @@
 
 ghost use Rattle.std.specs.Prelude.{◌≡◌, ℕ, ◌+◌, ◌≤◌, ◌++◌, List, length, IfOk, IsTrue, ◌↔◌};
 ghost use Rattle.std.specs.List.{sum_by};
+ghost use Rattle.aria_page.specs.Edit.{edit_bytes};
 ghost use Rattle.aria_keypage.specs.declared.item.TheConstants.{ENTRY_MAX};
 ghost use Rattle.aria_keypage.specs.declared.key_page.TheConstants.{ITEM_BYTES_MAX};
 ghost use Rattle.aria_keypage.specs.Item.{item_at, entry_before};
 ghost use Rattle.aria_keypage.specs.Packed.{shared, packed};
 ghost use Rattle.aria_keypage.specs.Content.{width, item_bytes, IsContent};
-ghost use Rattle.aria_keypage.specs.Change.{Changes, edit_bytes};
+ghost use Rattle.aria_keypage.specs.Change.{Changes};
 ghost use Rattle.aria_keypage.specs.Merge.{taken_over, joined};
 
-use crate::edit::patch;
+use crate::edit::{Patch, patch_of};
 use crate::entry::{capped, shared_of};
 use crate::find::common_at;
 use crate::item::{push_item, stored_at};
 use crate::key_page::{ITEM_BYTES_MAX, KeyPage};
 use crate::kind::Kind;
-use aria_page::{Edit, List};
 use std::alloc::{AllocError, Global};
 
 impl<'a> KeyPage<'a> {
@@ -111,7 +111,7 @@ impl<'a> KeyPage<'a> {
         alloc: Global,
         right: &KeyPage<'a>,
         between: &[u8],
-    ) -> Result<List<Edit>, AllocError>
+    ) -> Result<Patch, AllocError>
         requires kinds { right.now.kind ≡ self.now.kind }
         requires between { length between.now ≤ ENTRY_MAX }
         requires room { length (item_bytes (joined self.now between.now right.now)) ≤ ITEM_BYTES_MAX }
@@ -124,6 +124,6 @@ impl<'a> KeyPage<'a> {
         let (before, _) = self.walk_to(alloc, self.count)?;
         let mut bytes = Vec::new(alloc);
         right.push_over(alloc, before.as_slice(), between, &mut bytes)?;
-        patch(alloc, size, 0, 0, bytes)
+        Ok(patch_of(size, 0, 0, bytes))
     }
 }

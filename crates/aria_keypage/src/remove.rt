@@ -2,18 +2,18 @@
 
 ghost use Rattle.std.specs.Prelude.{◌≡◌, ◌+◌, ◌<◌, ◌≤◌, length, IfOk};
 ghost use Rattle.std.specs.List.{sum_by};
-ghost use Rattle.aria_keypage.specs.Change.{Changes, edit_bytes, without_item, removed_bytes};
+ghost use Rattle.aria_page.specs.Edit.{edit_bytes};
+ghost use Rattle.aria_keypage.specs.Change.{Changes, without_item, removed_bytes};
 
-use crate::edit::patch;
+use crate::edit::{Patch, patch_of};
 use crate::item::{entry_behind, stored_at};
 use crate::key_page::KeyPage;
-use aria_page::{Edit, List};
 use std::alloc::{AllocError, Global};
 
 impl<'a> KeyPage<'a> {
     /// The edits that take the item from a position. They bring at most 1010 bytes: the item behind it, which then
     /// shares other bytes, and two of the number of item bytes.
-    pub fn remove(&self, alloc: Global, at: usize) -> Result<List<Edit>, AllocError>
+    pub fn remove(&self, alloc: Global, at: usize) -> Result<Patch, AllocError>
         requires { at < length self.now.items }
         ensures page { IfOk result (λ edits. Changes edits self.now (without_item self.now at)) }
         ensures few { IfOk result (λ edits. length edits ≤ 3) }
@@ -23,7 +23,7 @@ impl<'a> KeyPage<'a> {
         let size = self.size();
         let (before, rest) = self.walk_to(alloc, at)?;
         let Some((item, left)) = stored_at(rest, self.kind.width()) else {
-            return Ok(List::new(alloc));
+            unreachable!();
         };
         let removed = entry_behind(alloc, before.as_slice(), &item)?;
         let mut bytes = Vec::new(alloc);
@@ -36,6 +36,6 @@ impl<'a> KeyPage<'a> {
             &mut bytes,
         )?;
         let old = rest.len() - behind.len();
-        patch(alloc, size - rest.len(), old, behind.len(), bytes)
+        Ok(patch_of(size - rest.len(), old, behind.len(), bytes))
     }
 }

@@ -2,31 +2,32 @@
 
 ghost use Rattle.std.specs.Prelude.{◌≡◌, ℕ, ◌+◌, ◌-◌, ◌*◌, ◌<◌, ◌≤◌, ◌++◌, ◌⊎◌, min, [], List, length, take, drop, IfOk};
 ghost use Rattle.std.specs.List.{AllByRecursion, sum_by};
+ghost use Rattle.aria_page.specs.Edit.{edit_bytes};
 ghost use Rattle.aria_keypage.specs.declared.item.TheConstants.{ENTRY_MAX};
 ghost use Rattle.aria_keypage.specs.declared.key_page.TheConstants.{ITEM_BYTES_MAX, ITEM_BYTES_LOW};
 ghost use Rattle.aria_keypage.specs.declared.kind.Kind.TheVariants.{Node};
 ghost use Rattle.aria_keypage.specs.Item.{Item, IsItem, item_at};
 ghost use Rattle.aria_keypage.specs.Packed.{packed, ArePacked, IsLeft};
 ghost use Rattle.aria_keypage.specs.Content.{Content, width, first_bytes, item_bytes, IsContent};
-ghost use Rattle.aria_keypage.specs.Change.{Changes, IsBody, edit_bytes};
+ghost use Rattle.aria_keypage.specs.Change.{Changes, IsBody};
 ghost use Rattle.aria_keypage.specs.Reading.{content_of};
 ghost use Rattle.aria_keypage.specs.Split.{holding, right_half, AreItems, IsMiddle, IsSplit};
 ghost use Rattle.aria_keypage.specs.Merge.{joined};
 
-use crate::edit::patch;
+use crate::edit::{Patch, patch_of};
 use crate::item::{push_stored, stored_at};
 use crate::key_page::KeyPage;
 use crate::kind::Kind;
 use crate::root::whole_body;
 use crate::walk::walk_to;
-use aria_page::{Bytes, Edit, List};
+use aria_page::Bytes;
 use std::alloc::{AllocError, Global};
 
 /// Items divided between a page and the one to its right.
 #[derive(Drop)]
 pub struct Split {
     /// The edits of the page.
-    pub left: List<Edit>,
+    pub left: Patch,
     /// The whole body of the page to its right.
     pub right: Bytes,
     /// The entry between the two: the first one of a right leaf, or the one that goes up from a node.
@@ -109,7 +110,7 @@ fn push_node(
 
 impl<'a> KeyPage<'a> {
     // The edits that leave so many bytes of packed items in the page, which begin as its own do.
-    fn shorten(&self, alloc: Global, items: &[u8], size: usize) -> Result<List<Edit>, AllocError>
+    fn shorten(&self, alloc: Global, items: &[u8], size: usize) -> Result<Patch, AllocError>
         requires begin { (behind : List ℕ) × (items.now ≡ packed (width self.now.kind) [] self.now.items ++ behind) }
         requires size { size ≤ length items.now }
         requires room { size ≤ 8173 }
@@ -121,7 +122,7 @@ impl<'a> KeyPage<'a> {
         let len = self.items.len();
         let same = lower(size, len);
         let bytes = Vec::from_slice(alloc, part(items, same, size))?;
-        patch(alloc, first + same, len - same, 0, bytes)
+        Ok(patch_of(first + same, len - same, 0, bytes))
     }
 
     // The body of the page to the right, which has the items from a position on.

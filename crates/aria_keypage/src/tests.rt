@@ -1,5 +1,5 @@
 use super::*;
-use aria_page::{BODY_AT, Edit, List, Page, apply};
+use aria_page::{BODY_AT, Page, apply_all};
 use std::alloc::{AllocError, Global};
 use std::test::*;
 
@@ -10,16 +10,6 @@ fn page_of(body: &[u8]) -> Page {
         page.put(BODY_AT, body);
     }
     page
-}
-
-// Makes all edits.
-fn apply_all(edits: &List<Edit>, page: &mut Page) -> bool {
-    for edit in edits.as_slice() {
-        if apply(edit, page).is_err() {
-            return false;
-        }
-    }
-    true
 }
 
 const SHARING: &[u8] = &[
@@ -65,7 +55,7 @@ fn items_are_put_in_and_taken_out(rt: HostRuntime) -> Result<(), Fail> {
     let edits = view
         .insert(rt.alloc(), 1, &[1, 0x61, 0x63], 257)?
         .ok_or("room")?;
-    assert!(rt; apply_all(&edits, &mut page));
+    apply_all(&edits.edits(), &mut page);
     assert!(rt; page.body().starts_with(SHARING));
     let view = KeyPage::view(&page).ok_or("a leaf")?;
     if view.count() != 2 {
@@ -77,7 +67,7 @@ fn items_are_put_in_and_taken_out(rt: HostRuntime) -> Result<(), Fail> {
         [1, 0x61, 0x63].as_slice()
     );
     let edits = view.remove(rt.alloc(), 0)?;
-    assert!(rt; apply_all(&edits, &mut page));
+    apply_all(&edits.edits(), &mut page);
     let view = KeyPage::view(&page).ok_or("a leaf")?;
     assert!(rt; view.count() == 1 && view.find(&[1, 0x61, 0x63]) == (0, true));
     Ok(())
@@ -136,7 +126,7 @@ fn two_leaves_are_shared_where_they_do_not_fit_in_one(rt: HostRuntime) -> Result
         return Err("they fit in one".into());
     }
     let split = left.share(rt.alloc(), &right, &[3])?;
-    assert!(rt; apply_all(&split.left, &mut page));
+    apply_all(&split.left.edits(), &mut page);
     let five = page_front(rt.alloc(), &[10, 0, 0x11, 0xbc], true, 1, 6)?;
     assert!(rt; page.body().starts_with(five.as_slice()));
     let others = page_front(rt.alloc(), &[10, 0, 0x11, 0xbc], true, 6, 11)?;
@@ -160,7 +150,7 @@ fn two_leaves_are_joined_where_they_fit_in_one(rt: HostRuntime) -> Result<(), Fa
         return Err("they fit in one".into());
     }
     let edits = left.join(rt.alloc(), &right, &[3])?;
-    assert!(rt; apply_all(&edits, &mut page));
+    apply_all(&edits.edits(), &mut page);
     let nine = page_front(rt.alloc(), &[10, 0, 0x1f, 0xec], true, 1, 10)?;
     assert!(rt; page.body().starts_with(nine.as_slice()));
     Ok(())
@@ -175,7 +165,7 @@ fn a_leaf_is_split_at_the_lower_of_two_positions(rt: HostRuntime) -> Result<(), 
         return Err("a page with items to split".into());
     }
     let split = view.split(rt.alloc())?;
-    assert!(rt; apply_all(&split.left, &mut page));
+    apply_all(&split.left.edits(), &mut page);
     let one = page_front(rt.alloc(), &[10, 4, 0x03, 0x8c], true, 1, 2)?;
     assert!(rt; page.body().starts_with(one.as_slice()));
     let two = page_front(rt.alloc(), &[10, 4, 0x07, 0x18], true, 2, 4)?;
@@ -193,7 +183,7 @@ fn an_entry_goes_up_from_a_node(rt: HostRuntime) -> Result<(), Fail> {
         return Err("a page with items to split".into());
     }
     let split = view.split(rt.alloc())?;
-    assert!(rt; apply_all(&split.left, &mut page));
+    apply_all(&split.left.edits(), &mut page);
     let one = page_front(rt.alloc(), &[11, 4, 0x03, 0x8f, 0, 0, 0, 9], false, 1, 2)?;
     assert!(rt; page.body().starts_with(one.as_slice()));
     let last = page_front(rt.alloc(), &[11, 4, 0x03, 0x8f, 0, 0, 0, 2], false, 3, 4)?;

@@ -1,9 +1,10 @@
 use Rattle.std.proofs.Common.{◌∙◌, ◌-◌, ap, sym, subst, arith, length, List}
 use Rattle.std.specs.List.{sum_by}
 use Rattle.aria_page.specs.declared.edit.Edit.{Edit}
+use Rattle.aria_page.specs.Edit.{edit_bytes}
 use Rattle.aria_keypage.specs.Item.{Item}
 use Rattle.aria_keypage.specs.Content.{Content, width}
-use Rattle.aria_keypage.specs.Change.{Changes, edit_bytes, with_item}
+use Rattle.aria_keypage.specs.Change.{Changes, with_item}
 use Rattle.aria_keypage.proofs.Spliced.{inserts, patch-bytes}
 use Rattle.aria_keypage.proofs.key_page.KeyPage.insert.Goals as goal
 
@@ -39,8 +40,8 @@ overflow_sub-rest c =
     (ap (λ (e : Content). width e.kind) c.self.view_is) (c.as_slice.ensures.value ∙ c.in_ok-before.ensures.entry) c.new-bytes.ensures.items c.in_ok-push_item.ensures c.in_ok-behind.ensures.bytes in
     done.inner
 
-pub patch-requires : goal.patch-requires
-patch-requires c =
+pub patch_of-requires : goal.patch_of-requires
+patch_of-requires c =
     let d : Content = c.args.self.now in
     let x : Item = record { entry = c.args.entry.now; to = c.args.target } in
     let done = inserts d c.args.at c.size.result (width c.self.inside.kind) x c.as_slice.result.now c.new-bytes.result.items c.push_item.new.out.items c.push_next.new.out.items c.in_ok-before.rest.now c.in_ok-behind.behind.now c.size.ensures.content (record { entry = c.requires.entry; to = c.requires.target }) c.size.ensures.size c.in_ok-before.ensures.left c.in_ok-behind.ensures.behind
@@ -53,7 +54,7 @@ returns-clause-page c =
     let x : Item = record { entry = c.args.entry.now; to = c.args.target } in
     let done = inserts d c.args.at c.size.result (width c.self.inside.kind) x c.as_slice.result.now c.new-bytes.result.items c.push_item.new.out.items c.push_next.new.out.items c.in_ok-before.rest.now c.in_ok-behind.behind.now c.size.ensures.content (record { entry = c.requires.entry; to = c.requires.target }) c.size.ensures.size c.in_ok-before.ensures.left c.in_ok-behind.ensures.behind
     (ap (λ (e : Content). width e.kind) c.self.view_is) (c.as_slice.ensures.value ∙ c.in_ok-before.ensures.entry) c.new-bytes.ensures.items c.in_ok-push_item.ensures c.in_ok-behind.ensures.bytes in
-    subst (λ (l : List Edit). Changes l d (with_item d c.args.at x)) (sym c.in_ok-edits.ensures) (done.changes (omega (arith, done.size_is, c.if-front-len-gt-ITEM_BYTES_MAX.false)))
+    subst (λ (l : List Edit). Changes l d (with_item d c.args.at x)) (sym c.patch_of.ensures) (done.changes (omega (arith, done.size_is, c.if-front-len-gt-ITEM_BYTES_MAX.false)))
 
 pub returns-clause-bytes : goal.returns-clause-bytes
 returns-clause-bytes c =
@@ -61,7 +62,7 @@ returns-clause-bytes c =
     let x : Item = record { entry = c.args.entry.now; to = c.args.target } in
     let done = inserts d c.args.at c.size.result (width c.self.inside.kind) x c.as_slice.result.now c.new-bytes.result.items c.push_item.new.out.items c.push_next.new.out.items c.in_ok-before.rest.now c.in_ok-behind.behind.now c.size.ensures.content (record { entry = c.requires.entry; to = c.requires.target }) c.size.ensures.size c.in_ok-before.ensures.left c.in_ok-behind.ensures.behind
     (ap (λ (e : Content). width e.kind) c.self.view_is) (c.as_slice.ensures.value ∙ c.in_ok-before.ensures.entry) c.new-bytes.ensures.items c.in_ok-push_item.ensures c.in_ok-behind.ensures.bytes in
-    omega (arith, ap (sum_by edit_bytes) c.in_ok-edits.ensures, patch-bytes (c.size.result - length c.in_ok-before.rest.now) (length c.in_ok-before.rest.now - length c.in_ok-behind.behind.now) (length c.in_ok-behind.behind.now) c.push_next.new.out.items, done.brings)
+    omega (arith, ap (sum_by edit_bytes) c.patch_of.ensures, patch-bytes (c.size.result - length c.in_ok-before.rest.now) (length c.in_ok-before.rest.now - length c.in_ok-behind.behind.now) (length c.in_ok-behind.behind.now) c.push_next.new.out.items, done.brings)
 
 pub returns-clause-most : goal.returns-clause-most
 returns-clause-most c =
@@ -69,4 +70,4 @@ returns-clause-most c =
     let x : Item = record { entry = c.args.entry.now; to = c.args.target } in
     let done = inserts d c.args.at c.size.result (width c.self.inside.kind) x c.as_slice.result.now c.new-bytes.result.items c.push_item.new.out.items c.push_next.new.out.items c.in_ok-before.rest.now c.in_ok-behind.behind.now c.size.ensures.content (record { entry = c.requires.entry; to = c.requires.target }) c.size.ensures.size c.in_ok-before.ensures.left c.in_ok-behind.ensures.behind
     (ap (λ (e : Content). width e.kind) c.self.view_is) (c.as_slice.ensures.value ∙ c.in_ok-before.ensures.entry) c.new-bytes.ensures.items c.in_ok-push_item.ensures c.in_ok-behind.ensures.bytes in
-    omega (arith, ap (sum_by edit_bytes) c.in_ok-edits.ensures, patch-bytes (c.size.result - length c.in_ok-before.rest.now) (length c.in_ok-before.rest.now - length c.in_ok-behind.behind.now) (length c.in_ok-behind.behind.now) c.push_next.new.out.items, done.few)
+    omega (arith, ap (sum_by edit_bytes) c.patch_of.ensures, patch-bytes (c.size.result - length c.in_ok-before.rest.now) (length c.in_ok-before.rest.now - length c.in_ok-behind.behind.now) (length c.in_ok-behind.behind.now) c.push_next.new.out.items, done.few)

@@ -1,24 +1,18 @@
-use Rattle.std.proofs.Common.{◌≡◌, ◌∙◌, ◌-◌, ap, sym, subst, arith, length, List, ℕ}
+use Rattle.std.proofs.Common.{◌∙◌, ◌-◌, ap, sym, subst, arith, length, List, ℕ}
 use Rattle.std.specs.List.{AllByRecursion, sum_by}
 use Rattle.aria_page.specs.declared.edit.Edit.{Edit}
+use Rattle.aria_page.specs.Edit.{edit_bytes}
 use Rattle.aria_keypage.specs.Item.{IsItem}
 use Rattle.aria_keypage.specs.StoredItem.{StoredItem, stored_at}
 use Rattle.aria_keypage.specs.Content.{Content, width}
-use Rattle.aria_keypage.specs.Change.{Changes, edit_bytes, without_item, patch}
-use Rattle.aria_keypage.proofs.Options.{ok-map}
+use Rattle.aria_keypage.specs.Change.{Changes, without_item}
 use Rattle.aria_keypage.proofs.Left.{left-read}
 use Rattle.aria_keypage.proofs.Next.{next-some}
 use Rattle.aria_keypage.proofs.Spliced.{removed, removed-brings, behind-next, length-bytes_before, patch-bytes}
 use Rattle.aria_keypage.proofs.key_page.KeyPage.remove.Goals as goal
 
-pub returns-in_default-clause-page : goal.returns-in_default-clause-page
-returns-in_default-clause-page c =
-    let d : Content = c.args.self.now in
-    let ew = c.width.ensures ∙ ap (λ (e : Content). width e.kind) c.self.view_is in
-    absurd (left-read (width d.kind) d.items c.args.at c.in_ok-before.rest.now c.size-size.ensures.content.items c.in_ok-before.ensures.left (ap (λ (k : ℕ). stored_at k c.in_ok-before.rest.now) (sym ew) ∙ c.in_default.ensures) c.requires)
-
-pub returns-in_default-clause-bytes : goal.returns-in_default-clause-bytes
-returns-in_default-clause-bytes c =
+pub unreachable-requires : goal.unreachable-requires
+unreachable-requires c =
     let d : Content = c.args.self.now in
     let ew = c.width.ensures ∙ ap (λ (e : Content). width e.kind) c.self.view_is in
     absurd (left-read (width d.kind) d.items c.args.at c.in_ok-before.rest.now c.size-size.ensures.content.items c.in_ok-before.ensures.left (ap (λ (k : ℕ). stored_at k c.in_ok-before.rest.now) (sym ew) ∙ c.in_default.ensures) c.requires)
@@ -51,8 +45,8 @@ pub overflow_sub-size : goal.overflow_sub-size
 overflow_sub-size c =
     omega (arith, length-bytes_before c.args.self.now c.args.at (omega (arith, c.requires)), c.size-size.ensures.size, ap length c.in_ok-before.ensures.left.is)
 
-pub patch-requires : goal.patch-requires
-patch-requires c =
+pub patch_of-requires : goal.patch_of-requires
+patch_of-requires c =
     let d : Content = c.args.self.now in
     let done = removed d c.args.at c.size-size.result (length c.in_ok-before.rest.now) (length c.in_ok-behind.behind.now) c.as_slice-3.result.now c.new-bytes.result.items c.push_next.new.out.items c.size-size.ensures.content c.requires c.size-size.ensures.size (ap length c.in_ok-before.ensures.left.is) (ap length c.in_ok-behind.ensures.behind)
     (c.as_slice-3.ensures.value ∙ c.in_ok-before.ensures.entry) c.new-bytes.ensures.items c.in_ok-behind.ensures.bytes in
@@ -63,15 +57,15 @@ returns-clause-page c =
     let d : Content = c.args.self.now in
     let done = removed d c.args.at c.size-size.result (length c.in_ok-before.rest.now) (length c.in_ok-behind.behind.now) c.as_slice-3.result.now c.new-bytes.result.items c.push_next.new.out.items c.size-size.ensures.content c.requires c.size-size.ensures.size (ap length c.in_ok-before.ensures.left.is) (ap length c.in_ok-behind.ensures.behind)
     (c.as_slice-3.ensures.value ∙ c.in_ok-before.ensures.entry) c.new-bytes.ensures.items c.in_ok-behind.ensures.bytes in
-    ok-map c.patch.result (λ edits. edits ≡ patch (c.size-size.result - length c.in_ok-before.rest.now) (length c.in_ok-before.rest.now - length c.in_ok-behind.behind.now) (length c.in_ok-behind.behind.now) c.push_next.new.out.items) _ (λ edits e. subst (λ (l : List Edit). Changes l d (without_item d c.args.at)) (sym e) done.changes) c.patch.ensures
+    subst (λ (l : List Edit). Changes l d (without_item d c.args.at)) (sym c.patch_of.ensures) done.changes
 
 pub returns-clause-bytes : goal.returns-clause-bytes
 returns-clause-bytes c =
-    ok-map c.patch.result (λ edits. edits ≡ patch (c.size-size.result - length c.in_ok-before.rest.now) (length c.in_ok-before.rest.now - length c.in_ok-behind.behind.now) (length c.in_ok-behind.behind.now) c.push_next.new.out.items) _ (λ edits e. omega (arith, ap (sum_by edit_bytes) e, patch-bytes (c.size-size.result - length c.in_ok-before.rest.now) (length c.in_ok-before.rest.now - length c.in_ok-behind.behind.now) (length c.in_ok-behind.behind.now) c.push_next.new.out.items, removed-brings c.args.self.now c.args.at c.as_slice-3.result.now c.new-bytes.result.items c.push_next.new.out.items (c.as_slice-3.ensures.value ∙ c.in_ok-before.ensures.entry) c.new-bytes.ensures.items c.in_ok-behind.ensures.bytes)) c.patch.ensures
+    omega (arith, ap (sum_by edit_bytes) c.patch_of.ensures, patch-bytes (c.size-size.result - length c.in_ok-before.rest.now) (length c.in_ok-before.rest.now - length c.in_ok-behind.behind.now) (length c.in_ok-behind.behind.now) c.push_next.new.out.items, removed-brings c.args.self.now c.args.at c.as_slice-3.result.now c.new-bytes.result.items c.push_next.new.out.items (c.as_slice-3.ensures.value ∙ c.in_ok-before.ensures.entry) c.new-bytes.ensures.items c.in_ok-behind.ensures.bytes)
 
 pub returns-clause-most : goal.returns-clause-most
 returns-clause-most c =
     let d : Content = c.args.self.now in
     let done = removed d c.args.at c.size-size.result (length c.in_ok-before.rest.now) (length c.in_ok-behind.behind.now) c.as_slice-3.result.now c.new-bytes.result.items c.push_next.new.out.items c.size-size.ensures.content c.requires c.size-size.ensures.size (ap length c.in_ok-before.ensures.left.is) (ap length c.in_ok-behind.ensures.behind)
     (c.as_slice-3.ensures.value ∙ c.in_ok-before.ensures.entry) c.new-bytes.ensures.items c.in_ok-behind.ensures.bytes in
-    ok-map c.patch.result (λ edits. edits ≡ patch (c.size-size.result - length c.in_ok-before.rest.now) (length c.in_ok-before.rest.now - length c.in_ok-behind.behind.now) (length c.in_ok-behind.behind.now) c.push_next.new.out.items) _ (λ edits e. omega (arith, ap (sum_by edit_bytes) e, patch-bytes (c.size-size.result - length c.in_ok-before.rest.now) (length c.in_ok-before.rest.now - length c.in_ok-behind.behind.now) (length c.in_ok-behind.behind.now) c.push_next.new.out.items, done.few)) c.patch.ensures
+    omega (arith, ap (sum_by edit_bytes) c.patch_of.ensures, patch-bytes (c.size-size.result - length c.in_ok-before.rest.now) (length c.in_ok-before.rest.now - length c.in_ok-behind.behind.now) (length c.in_ok-behind.behind.now) c.push_next.new.out.items, done.few)

@@ -1,11 +1,11 @@
 use Rattle.std.proofs.Common.{◌≡◌, ◌∙◌, ◌++◌, ◌+◌, ◌-◌, ◌*◌, ◌≤◌, [], ap, subst, arith, length, ℕ, List, IfOk, inl, inr, refl}
 use Rattle.std.specs.List.{sum_by}
 use Rattle.std.proofs.lemmas.List.{length-append}
+use Rattle.aria_page.specs.Edit.{edit_bytes}
 use Rattle.aria_keypage.specs.declared.kind.Kind.{Kind}
 use Rattle.aria_keypage.specs.Item.{entry_before}
 use Rattle.aria_keypage.specs.Packed.{packed}
 use Rattle.aria_keypage.specs.Content.{Content, IsContent, item_bytes, width}
-use Rattle.aria_keypage.specs.Change.{edit_bytes}
 use Rattle.aria_keypage.specs.Merge.{taken_over, joined}
 use Rattle.aria_keypage.specs.Split.{holding, IsSplit}
 use Rattle.aria_keypage.proofs.Options.{ok-map}

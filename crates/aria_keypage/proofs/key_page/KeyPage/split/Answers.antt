@@ -1,8 +1,8 @@
 use Rattle.std.proofs.Common.{◌∙◌, ◌+◌, ◌-◌, ◌*◌, ◌≤◌, [], sym, ap, subst, arith, length, IfOk}
 use Rattle.std.specs.List.{sum_by}
 use Rattle.std.proofs.lemmas.List.{append-nil}
+use Rattle.aria_page.specs.Edit.{edit_bytes}
 use Rattle.aria_keypage.specs.Content.{Content, IsContent, item_bytes}
-use Rattle.aria_keypage.specs.Change.{edit_bytes}
 use Rattle.aria_keypage.specs.Split.{holding, IsSplit}
 use Rattle.aria_keypage.proofs.Options.{ok-map}
 use Rattle.aria_keypage.proofs.Divided.{own-packed, own-holding, own-items}

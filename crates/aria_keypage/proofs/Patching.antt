@@ -1,12 +1,12 @@
 -- Bytes put in the place of others, and what comes behind them moved.
 use Rattle.std.proofs.Common.{◌≡◌, ℕ, ◌+◌, ◌≤◌, List, ◌++◌, length, take, drop, refl, sym, ap, ◌∙◌, append_assoc, take-add, arith}
 use Rattle.std.proofs.lemmas.List.{take_at, drop_at, length-append, length-take, length-drop}
-use Rattle.aria_page.specs.Edit.{edited}
+use Rattle.aria_page.specs.Edit.{edited, all_edited}
 use Rattle.aria_page.specs.Page.{with_bytes}
 use Rattle.aria_page.specs.Number.{number}
 use Rattle.aria_page.proofs.Numbers.{length-number}
 use Rattle.aria_keypage.specs.Content.{Content, kind_byte, item_bytes, front, IsContent}
-use Rattle.aria_keypage.specs.Change.{edited_by, Changes, patch}
+use Rattle.aria_keypage.specs.Change.{Changes, patch}
 
 -- bytes put over as many
 put_over : (n : ℕ) (p x q r : List ℕ) → n ≡ length p → length x ≡ length q → with_bytes n x (p ++ (q ++ r)) ≡ p ++ (x ++ r)
@@ -18,7 +18,7 @@ put_over n p x q r e same =
 
 -- the three edits, made on a body of these parts
 pub patched : (head count a m z rest new : List ℕ) → length head ≡ 2 → length count ≡ 2 → 4 + length a + length new + length z ≤ length (head ++ (count ++ (a ++ (m ++ (z ++ rest)))))
-    → (behind : List ℕ) × (edited_by (patch (length a) (length m) (length z) new) (head ++ (count ++ (a ++ (m ++ (z ++ rest))))) ≡ head ++ (number 2 (length a + length new + length z) ++ (a ++ (new ++ (z ++ behind)))))
+    → (behind : List ℕ) × (all_edited (patch (length a) (length m) (length z) new) (head ++ (count ++ (a ++ (m ++ (z ++ rest))))) ≡ head ++ (number 2 (length a + length new + length z) ++ (a ++ (new ++ (z ++ behind)))))
 unfolding edited with_bytes
 patched head count a m z rest new two two_more room =
     let body : List ℕ = head ++ (count ++ (a ++ (m ++ (z ++ rest)))) in
@@ -65,5 +65,5 @@ patch-changes c d a m z new pc pd kind key ec ed =
           let behind : List ℕ = there.0 in
           let whole : front d ++ behind ≡ head ++ (number 2 (length a + length new + length z) ++ (a ++ (new ++ (z ++ behind)))) =
           (λ i. (number 1 (kind_byte (kind i)) ++ (number 1 (key i) ++ (number 2 (size i) ++ ed i))) ++ behind) ∙ simp append_assoc in
-          record { content = pd; behind = behind; parts = ap (edited_by (patch (length a) (length m) (length z) new)) parts ∙ there.1 ∙ sym whole };
+          record { content = pd; behind = behind; parts = ap (all_edited (patch (length a) (length m) (length z) new)) parts ∙ there.1 ∙ sym whole };
     }
