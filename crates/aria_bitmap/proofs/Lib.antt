@@ -1,6 +1,6 @@
 pub mod Digits
 pub mod Patterns
 pub mod Promises
-mod Directory
+pub mod Directory
 mod Seeking
 mod Runs

@@ -62,6 +62,28 @@ pub fn set(bitmap: &mut Page, nth: u32, code: u8)
     bitmap.put(BODY_AT + place(nth), &bytes);
 }
 
+/// Three bytes of a bitmap page's body, those of a group of patterns, and their place there.
+#[derive(Clone, Copy)]
+pub struct GroupBytes {
+    pub at: u16,
+    pub bytes: [u8; GROUP_BYTES],
+}
+
+/// What has to be put in the body to set the pattern with this number.
+pub fn set_bytes(bitmap: &Page, nth: u32, code: u8) -> GroupBytes
+    requires nth { nth < PATTERNS }
+    requires code { code < CODES }
+    ensures within { result.at + GROUP_BYTES ≤ BODY_BYTES }
+    ensures len { length result.bytes ≡ GROUP_BYTES }
+    ensures sets { SetsPattern nth code (page_body bitmap.now) (with_bytes result.at result.bytes (page_body bitmap.now)) }
+{
+    let bytes = changed(bitmap.body(), nth, code);
+    GroupBytes {
+        at: place(nth) as u16,
+        bytes,
+    }
+}
+
 /// The edit that sets the pattern with this number: three bytes, those of its group.
 pub fn set_edit(alloc: Global, bitmap: &Page, nth: u32, code: u8) -> Result<Edit, AllocError>
     requires nth { nth < PATTERNS }

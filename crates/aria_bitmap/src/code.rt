@@ -35,9 +35,9 @@ const ENTRY_BYTES: usize = 4;
 /// The most entries of a directory.
 const MAX_ENTRIES: u8 = 255;
 
-// The directory entry with this number, from 0: zero where it is unused.
+/// The directory entry of a head or tail page with this number, from 0: zero where it is unused.
 #[tactic(auto, unfolding(crate::specs::Code::entry))]
-fn entry(body: &[u8], nth: u8) -> u32
+pub fn entry(body: &[u8], nth: u8) -> u32
     requires { length body.now ≡ BODY_BYTES }
     ensures { result ≡ entry body.now nth }
 {

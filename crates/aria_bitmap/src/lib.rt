@@ -17,8 +17,8 @@ mod group;
 mod search;
 mod sought;
 
-pub use bitmap::{get, set, set_edit};
-pub use code::code_of;
+pub use bitmap::{GroupBytes, get, set, set_bytes, set_edit};
+pub use code::{code_of, entry};
 pub use group::PATTERNS;
 pub use search::{find_empty_run, find_room};
 

@@ -9,6 +9,9 @@ fn patterns_lie_as_the_format_says(rt: HostRuntime) -> Result<(), Fail> {
     for (nth, code) in [(0, 1), (1, 4), (2, 7)] {
         set(&mut page, nth, code);
         assert_eq!(rt; get(&page, nth), code);
+        let put = set_bytes(&edited, nth, code);
+        assert_eq!(rt; put.at, 1);
+        assert_eq!(rt; put.bytes.as_slice(), &page.body()[1..4]);
         let edit = set_edit(rt.alloc(), &edited, nth, code)?;
         assert!(rt; apply(&edit, &mut edited).is_ok());
     }
