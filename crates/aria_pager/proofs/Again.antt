@@ -44,7 +44,7 @@ use Rattle.aria_pager.specs.declared.page_store.PageStore.{PageStore}
 use Rattle.aria_pager.specs.PageStore.{name_in, name_at, opened, part_of_key, spot_of, with_frames, late_seen}
 use Rattle.aria_pager.specs.Pager.{HasFront, IsPagerAt, known, next_number}
 use Rattle.aria_pager.specs.Steps.{SameWork, StepsAt, OfHold}
-use Rattle.aria_pager.specs.Redone.{KeepsLog, redone_by, is_older, IsRedoing, Redoes, OfRedo, HasRedoCause, IsEdited, OfEdited}
+use Rattle.aria_pager.specs.Redone.{KeepsLog, redone_by, is_older, IsRedoing, Redoes, OfRedo, HasRedoCause, IsEdited, OfEdited, is_log_damage}
 use Rattle.aria_pager.proofs.Slots.{stands, keys_apart, key_parts}
 use Rattle.aria_pager.proofs.Quiet.{keeps_on}
 use Rattle.aria_pager.proofs.Editing.{some_edits}
@@ -350,9 +350,19 @@ if_err_more (Err f) P Q more is = more f is
 pub if_err_at : {T : Type 0} (r : Result T Fault) (P : Fault → Type 0) (y f : Fault) → r ≡ Err y → y ≡ f → P f → IfErr r P
 if_err_at {T} r P y f r_is y_is is = subst (λ (x : Result T Fault). IfErr x P) (sym r_is) (subst P (sym y_is) is)
 
+pub if_err_both : {T : Type 0} (r : Result T Fault) (P Q R : Fault → Type 0) → ((f : Fault) → P f → Q f → R f) → IfErr r P → IfErr r Q → IfErr r R
+if_err_both (Ok x) P Q R both p q = search rules
+if_err_both (Err f) P Q R both p q = both f p q
+
+-- The log that a page is ahead of is the one that was.
+pub edited_before : (log log' : LogValue) (groups : List Logged) (folder : Folder) (f : Fault) → OfEdited log' groups folder f → (is_log_damage f ≡ true → log' ≡ log) → OfEdited log groups folder f
+edited_before log log' groups folder (LogDamaged f n) is same = subst (λ (l : LogValue). OfEdited l groups folder (LogDamaged f n)) (same refl) is
+edited_before log log' groups folder (PageDamaged f n) is same = is
+edited_before log log' groups folder f is same = tt
+
 -- A page that can't be held is one that the groups edit.
 pub of_edited : (tells : Bool) (a n : PageStore) (redone : Progress) (groups before after : List Logged) (g : Logged) (key : ℕ) (sp : Spot) (old new : State) → IsTrue tells → EditsPage (spot_of a) redone groups before after g key sp → name_at n ≡ name_at a → (f : Fault)
-    → OfHold tells n key old new f → OfEdited n groups new.folder f
+    → OfHold tells n key old new f → OfEdited n.log groups new.folder f
 of_edited tells a n redone groups before after g key sp old new told page same f = by f
   where
     at : spot_of n key ≡ Some sp
@@ -364,7 +374,7 @@ of_edited tells a n redone groups before after g key sp old new told page same f
     edited : IsEdited groups sp
     edited = edited_last (spot_of a) redone groups before after g key sp page
 
-    by : (f : Fault) → OfHold tells n key old new f → OfEdited n groups new.folder f
+    by : (f : Fault) → OfHold tells n key old new f → OfEdited n.log groups new.folder f
     by (PageDamaged f p) (s, there, file_is, page_is, unheld, none) =
         let one : s ≡ sp = some_spot s sp (sym there ∙ at) in
         (sp, edited, file_is ∙ ap (λ (x : Spot). file x.name x.part) one, page_is ∙ ap (λ (x : Spot). x.page) one, sym (ap (raw_at new.folder) at) ∙ (none told).none)

@@ -13,6 +13,7 @@ use Rattle.aria_page.specs.declared.lsn.Lsn.{Lsn}
 use Rattle.aria_page.specs.declared.place.Part.{Part}
 use Rattle.aria_page.specs.declared.place.Part.TheVariants.{Keys, Rows}
 use Rattle.aria_value.specs.Named.{same_name}
+use Rattle.aria_host.specs.Calls.{Unchanged}
 use Rattle.aria_host.specs.Folder.{Folder}
 use Rattle.aria_host.specs.State.{State}
 use Rattle.aria_record.specs.declared.record.Record.{Record}
@@ -24,24 +25,27 @@ use Rattle.aria_log.specs.declared.log.Log.{Log as LogValue}
 use Rattle.aria_log.specs.Log.{IsLog, place}
 use Rattle.aria_log.proofs.Places.{AreRising, log_rising}
 use Rattle.aria_cache.specs.Frames.{Held, held, is_pinned}
-use Rattle.aria_recovery.specs.Redo.{reach_on, touches}
+use Rattle.aria_recovery.specs.Redo.{number_at, reach_on, touches}
 use Rattle.aria_recovery.specs.Noted.{told_of, told_at, reach_at, life_at, is_of}
 use Rattle.aria_recovery.specs.Analysed.{Has}
 use Rattle.aria_recovery.specs.declared.analysis.Analysis.{Analysis}
 use Rattle.aria_recovery.specs.declared.life.Told.{Told}
 use Rattle.aria_recovery.specs.declared.life.Life.{Life as LifeValue}
 use Rattle.aria_recovery.specs.Pending.{link_in, link_of, pended, pending_from, pending_of, oldest}
-use Rattle.aria_recovery.specs.Tables.{Maker, life_of, file, is_there, tables_of, told_by, IsCurrent}
+use Rattle.aria_recovery.specs.Tables.{Maker, life_of, file, is_there, tables_of, told_by, Agrees, IsCurrent, AreCurrent}
+use Rattle.aria_recovery.specs.Images.{Raises, SameNames}
 use Rattle.aria_recovery.specs.Frames.{Spot, FramesOver, dirty_of}
 use Rattle.aria_recovery.proofs.Comparing.{lt_true}
 use Rattle.aria_recovery.proofs.Over.{over_none}
 use Rattle.aria_pager.specs.declared.page_store.PageStore.{PageStore}
 use Rattle.aria_pager.specs.PageStore.{name_at, opened, spot_of, is_known as is_known_key}
-use Rattle.aria_pager.specs.Pager.{LogOf, NoFiles, AreSilent, KnowsTables, HoldsPages, IsPagerAt, known, next_number}
+use Rattle.aria_pager.specs.Pager.{LogOf, NamesBase, NoFiles, AreSilent, KnowsTables, HoldsPages, IsPagerAt, known, next_number}
 use Rattle.aria_pager.specs.Filing.{AreTidy}
 use Rattle.aria_pager.specs.View.{IsTidy}
 use Rattle.aria_pager.specs.Settled.{IsSettled}
-use Rattle.aria_pager.specs.Entered.{is_told, reach_of, needs_slot, HasSlot, HaveSlots, IsEntering}
+use Rattle.aria_pager.specs.Redone.{BeginsRedo}
+use Rattle.aria_pager.specs.Entered.{is_told, reach_of, needs_slot, HasSlot, HaveSlots, IsEntering, HasEntered}
+use Rattle.aria_pager.proofs.Stepping.{pager_look}
 use Rattle.aria_pager.proofs.Forgetting.{by_order}
 use Rattle.aria_pager.proofs.Keeping.{no_edits}
 use Rattle.aria_pager.proofs.Lasting.{all_reverse}
@@ -111,18 +115,44 @@ told_some : (o : Option LifeValue) → is_told (told_at o) (max (reach_at o Keys
 told_some None needs = absurd (let e : false ≡ true = needs in (cc))
 told_some (Some l) needs = refl
 
-needs_known : (checkpoint : Lsn) (analysis : Analysis) (groups : List Logged) (name : List ℕ) → Has checkpoint analysis groups → needs_slot name groups ≡ true → list_any (is_of name) groups ≡ true
+pub needs_known : (checkpoint : Lsn) (analysis : Analysis) (groups : List Logged) (name : List ℕ) → Has checkpoint analysis groups → needs_slot name groups ≡ true → list_any (is_of name) groups ≡ true
 needs_known checkpoint analysis groups name has needs =
     sym (has.lives.names name) ∙ told_some (life_at analysis.lives name)
     (ap (λ (t : Told). is_told t (max (reach_at (life_at analysis.lives name) Keys) (reach_at (life_at analysis.lives name) Rows))) (has.lives.told name)
     ∙ ap (λ (n : ℕ). is_told (told_of (life_of name groups).last) (max n (reach_at (life_at analysis.lives name) Rows))) (has.lives.reach name Keys)
     ∙ ap (λ (n : ℕ). is_told (told_of (life_of name groups).last) (max (reach_of name Keys groups) n)) (has.lives.reach name Rows) ∙ needs)
 
-module _ (store : PageStore) (s : State) (base : ℕ) (start : Folder) (groups : List Logged) (checkpoint : Lsn) (analysis : Analysis) (names : List (List ℕ))
-    (settled : IsSettled store.log s base start groups) (has : Has checkpoint analysis groups) (is : IsEntering store s.folder groups) (have : HaveSlots store groups names)
-    (all : (q : List ℕ) → is_member (eq_by_cmp (slice_cmp nat_cmp)) names q ≡ list_any (is_of q) groups) where
-  covered : (name : List ℕ) → needs_slot name groups ≡ true → HasSlot store name
-  covered name needs = have name (sym (λ i. list_any (λ x. by_order name x i) names) ∙ all name ∙ needs_known checkpoint analysis groups name has needs) needs
+-- each of them is among the names that the groups tell of
+pub covered : (store : PageStore) (groups : List Logged) (checkpoint : Lsn) (analysis : Analysis) (names : List (List ℕ)) → Has checkpoint analysis groups → HaveSlots store groups names → ((q : List ℕ) → is_member (eq_by_cmp (slice_cmp nat_cmp)) names q ≡ list_any (is_of q) groups)
+    → (name : List ℕ) → needs_slot name groups ≡ true → HasSlot store name
+covered store groups checkpoint analysis names has have all name needs = have name (sym (λ i. list_any (λ x. by_order name x i) names) ∙ all name ∙ needs_known checkpoint analysis groups name has needs) needs
+
+-- ---- the log, and the files behind it
+
+-- The tables' files are those that the groups made or left last, in each image, behind a log that was started, or was opened alone.
+pub record IsReady (started : Bool) (value : LogValue) (s : State) (base : ℕ) (start : Folder) (groups : List Logged) : Type 0 where
+  pub log : LogOf started value s base groups (length groups)
+  pub fits : All IsLsn (oldest (pending_of groups))
+  pub names : (c : Folder) → s.may_leave c → SameNames s.folder c
+  pub control : (c : Folder) → s.may_leave c → NamesBase base c
+  pub agrees : (c : Folder) → s.may_leave c → Agrees groups (length groups) s.folder c
+  pub made : (name : List ℕ) (m : Maker) → (life_of name groups).last ≡ Some (Some m) → (c : Folder) → s.may_leave c → AreCurrent name groups c
+  pub raises : (c : Folder) → s.may_leave c → Raises (number_at (place value)) start c
+
+pub settled_ready : (value : LogValue) (s : State) (base : ℕ) (start : Folder) (groups : List Logged) → IsSettled value s base start groups → IsReady true value s base start groups
+settled_ready value s base start groups is = record {
+  log = is.log;
+  fits = oldest_fit value s base groups (length groups) is.log;
+  names = is.names;
+  control = is.control;
+  agrees = is.agrees;
+  made = is.made;
+  raises = is.raises;
+}
+
+module _ (started : Bool) (value : LogValue) (store : PageStore) (s : State) (base : ℕ) (start : Folder) (groups : List Logged) (ready : IsReady started value s base start groups) (was : HasEntered value started s.folder groups store) where
+  is : IsEntering store s.folder groups
+  is = was.entering
 
   needed : (name : List ℕ) (m : Maker) → (life_of name groups).last ≡ Some (Some m) → needs_slot name groups ≡ true
   needed name m last = ap (λ (l : Option (Option Maker)). is_told (told_of l) (max (reach_of name Keys groups) (reach_of name Rows groups))) last
@@ -139,13 +169,13 @@ module _ (store : PageStore) (s : State) (base : ℕ) (start : Folder) (groups :
           by : (l : Option (Option Maker)) → (life_of name groups).last ≡ l → is_some (known store name) ≡ is_some (tables_of s.folder groups name)
           by None last = is.bare name last ∙ sym (told_there name None last)
           by (Some None) last = ap is_some (is.gone name last) ∙ sym (told_there name (Some None) last)
-          by (Some (Some m)) last = ap is_some (covered name (needed name m last)).1 ∙ sym (told_there name (Some (Some m)) last)
+          by (Some (Some m)) last = ap is_some (was.have name (needed name m last)).1 ∙ sym (told_there name (Some (Some m)) last)
 
       silent : (name : List ℕ) → known store name ≡ Some None → AreSilent name groups
       silent name closed = by (life_of name groups).last refl
         where
           no_slot : needs_slot name groups ≡ true → ⊥
-          no_slot needs = let h = covered name needs in let e : Some None ≡ Some (Some h.0) = sym closed ∙ h.1 in (cc)
+          no_slot needs = let h = was.have name needs in let e : Some None ≡ Some (Some h.0) = sym closed ∙ h.1 in (cc)
 
           by : (l : Option (Option Maker)) → (life_of name groups).last ≡ l → AreSilent name groups
           by (Some None) last = absurd (let e : None ≡ Some None = sym (is.gone name last) ∙ closed in (cc))
@@ -177,48 +207,60 @@ module _ (store : PageStore) (s : State) (base : ℕ) (start : Folder) (groups :
       by (life_of name groups).last refl (ap (known store) (sym same) ∙ slot.known) (λ part. ap (λ (q : List ℕ). is_some (s.folder (file q part))) (sym same) ∙ ap is_some (slot.files part).there)
     where
       by : {n : ℕ} → (l : Option (Option Maker)) → (life_of name groups).last ≡ l → known store name ≡ Some (Some n) → ((part : Part) → is_some (s.folder (file name part)) ≡ true) → (part : Part) → IsCurrent (life_of name groups).last (c (file name part))
-      by None last knows there part = subst (λ (l : Option (Option Maker)). IsCurrent l (c (file name part))) (sym last) (settled.names c left name part ∙ there part)
+      by None last knows there part = subst (λ (l : Option (Option Maker)). IsCurrent l (c (file name part))) (sym last) (ready.names c left name part ∙ there part)
       by {n} (Some None) last knows there part = absurd (let e : None ≡ Some (Some n) = sym (is.gone name last) ∙ knows in (cc))
-      by (Some (Some m)) last knows there part = settled.made name m last c left part
+      by (Some (Some m)) last knows there part = ready.made name m last c left part
 
-  module _ (started : store.started ≡ true) (none : (k : ℕ) → held store.frames k ≡ None) (pins : store.frames.pins.items ≡ []) (empty : Writes store.writer []) (pending : store.pending.items ≡ oldest (pending_of groups)) where
-    no_records : records_of store.writer ≡ []
-    no_records = written_is store.writer [] empty
+  no_records : records_of store.writer ≡ []
+  no_records = written_is store.writer [] was.empty
 
-    no_pin : (k : ℕ) → is_pinned store.frames k ≡ false
-    no_pin k = ap (list_any (nat_eq k)) pins
+  no_pin : (k : ℕ) → is_pinned store.frames k ≡ false
+  no_pin k = ap (list_any (nat_eq k)) was.pins
 
-    log_is : (b : Bool) → store.started ≡ b → LogOf b store.log s base groups (length groups)
-    log_is true on = settled.log
-    log_is false off = absurd (let e : true ≡ false = sym started ∙ off in (cc))
+  log_is : LogOf store.started store.log s base groups (length groups)
+  log_is = subst (λ (b : Bool). LogOf b store.log s base groups (length groups)) (sym was.started) (subst (λ (l : LogValue). LogOf started l s base groups (length groups)) (sym was.log) ready.log)
 
-    pages : HoldsPages store s.folder groups (λ k. 0)
-    pages = subst (λ (rs : List Record). FramesOver (is_known_key store) (held store.frames) (is_pinned store.frames) (spot_of store) s.folder groups (λ k. 0) rs (next_number store) (next_number store)) (sym no_records)
-        (subst (λ (f : ℕ → Option Held). FramesOver (is_known_key store) f (is_pinned store.frames) (spot_of store) s.folder groups (λ k. 0) [] (next_number store) (next_number store)) (λ i k. sym (none k) i)
-        (subst (λ (p : ℕ → Bool). FramesOver (is_known_key store) (λ k. None) p (spot_of store) s.folder groups (λ k. 0) [] (next_number store) (next_number store)) (λ i k. sym (no_pin k) i)
-        (over_none (is_known_key store) (spot_of store) s.folder groups (next_number store) (next_number store))))
+  pages : HoldsPages store s.folder groups (λ k. 0)
+  pages = subst (λ (rs : List Record). FramesOver (is_known_key store) (held store.frames) (is_pinned store.frames) (spot_of store) s.folder groups (λ k. 0) rs (next_number store) (next_number store)) (sym no_records)
+      (subst (λ (f : ℕ → Option Held). FramesOver (is_known_key store) f (is_pinned store.frames) (spot_of store) s.folder groups (λ k. 0) [] (next_number store) (next_number store)) (λ i k. sym (was.none k) i)
+      (subst (λ (p : ℕ → Bool). FramesOver (is_known_key store) (λ k. None) p (spot_of store) s.folder groups (λ k. 0) [] (next_number store) (next_number store)) (λ i k. sym (no_pin k) i)
+      (over_none (is_known_key store) (spot_of store) s.folder groups (next_number store) (next_number store))))
 
-    untouched : (o : Option Spot) → option_map_or (λ sp. touches sp.name sp.part sp.page (records_of store.writer)) o false ≡ false
-    untouched None = refl
-    untouched (Some sp) = ap (touches sp.name sp.part sp.page) no_records
+  untouched : (o : Option Spot) → option_map_or (λ sp. touches sp.name sp.part sp.page (records_of store.writer)) o false ≡ false
+  untouched None = refl
+  untouched (Some sp) = ap (touches sp.name sp.part sp.page) no_records
 
-    -- THE TABLES ARE ENTERED
-    pub entered : IsPagerAt store s (λ k. 0) base start groups (length groups)
-    entered = record {
-      log = log_is store.started refl;
-      images = λ c left. record { agrees = settled.agrees c left; current = λ name has_one. current c left name has_one };
-      names = settled.names;
-      control = settled.control;
-      raises = settled.raises;
-      pages = pages;
-      top = inl no_records;
-      inside = λ k sp at dirty free. absurd (let e : false ≡ true = sym (ap dirty_of (none k)) ∙ dirty in (cc));
-      pinned = λ k. no_pin k ∙ sym (untouched (spot_of store k));
-      own = λ name part k on. absurd (let e : true ≡ false = sym on ∙ ap (touches name part k) no_records in (cc));
-      named = λ name part off. ap (reach_on name part) no_records;
-      slots = is.slots;
-      tables = tables;
-      settled = subst NoFiles (sym (drop_all (length groups) groups (omega arith))) (λ name. All-nil (λ g. told_by name g ≡ None));
-      written = subst (Writes store.writer) (sym no_records) empty;
-      pending = pending;
-    }
+  -- THE TABLES ARE ENTERED
+  pub entered : IsPagerAt store s (λ k. 0) base start groups (length groups)
+  entered = record {
+    log = log_is;
+    images = λ c left. record { agrees = ready.agrees c left; current = λ name has_one. current c left name has_one };
+    names = ready.names;
+    control = ready.control;
+    raises = subst (λ (l : LogValue). (c : Folder) → s.may_leave c → Raises (number_at (place l)) start c) (sym was.log) ready.raises;
+    pages = pages;
+    top = inl no_records;
+    inside = λ k sp at dirty free. absurd (let e : false ≡ true = sym (ap dirty_of (was.none k)) ∙ dirty in (cc));
+    pinned = λ k. no_pin k ∙ sym (untouched (spot_of store k));
+    own = λ name part k on. absurd (let e : true ≡ false = sym on ∙ ap (touches name part k) no_records in (cc));
+    named = λ name part off. ap (reach_on name part) no_records;
+    slots = is.slots;
+    tables = tables;
+    settled = subst NoFiles (sym (drop_all (length groups) groups (omega arith))) (λ name. All-nil (λ g. told_by name g ≡ None));
+    written = subst (Writes store.writer) (sym no_records) was.empty;
+    pending = was.pending ready.fits;
+  }
+
+-- NO GROUP IS MADE AGAIN YET, and the log was started
+pub begins : (value : LogValue) (store : PageStore) (s t : State) (base : ℕ) (start : Folder) (groups : List Logged) (checkpoint : Lsn) (analysis : Analysis) → IsSettled value s base start groups → Has checkpoint analysis groups → Unchanged s t → HasEntered value true s.folder groups store
+    → BeginsRedo store t analysis (lsn_at_place base) base start groups (length groups)
+begins value store s t base start groups checkpoint analysis settled has same is = record {
+  redoing = record {
+    pager = pager_look store s t (λ k. 0) base start groups (length groups) same (entered true value store s base start groups (settled_ready value s base start groups settled) is);
+    started = is.started;
+    none = written_is store.writer [] is.empty;
+    idle = ap (λ (l : LogValue). l.used) is.log ∙ settled.idle;
+  };
+  knows = record { checkpoint = checkpoint; has = has };
+  from_is = refl;
+}

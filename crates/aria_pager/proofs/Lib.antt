@@ -1,6 +1,9 @@
 pub mod Fronting
+pub mod Preparing
 pub mod Slots
 pub mod Setting
+pub mod Settling
+pub mod Makers
 pub mod Quiet
 pub mod Putting
 pub mod Stepping
@@ -29,7 +32,7 @@ pub mod EndKept
 pub mod Turning
 pub mod Firsts
 pub mod Lending
-pub mod Looked
+pub mod Glanced
 pub mod Paging
 pub mod Undoing
 pub mod LastSizes
@@ -47,4 +50,17 @@ pub mod Slotting
 pub mod Listed
 pub mod Given
 pub mod Entered
+pub mod Resting
+pub mod Rested
+pub mod Unchanging
 pub mod Stood
+pub mod Opened
+pub mod Beginning
+pub mod Analysing
+pub mod Founding
+pub mod LogRead
+pub mod FolderFound
+pub mod Inspecting
+pub mod Beginnings
+pub mod Usable
+pub mod SettlingNames

@@ -70,7 +70,7 @@ module _ {A : Type 0} (p : A → Bool) where
       by true sum later = refl
       by false sum later = later (omega (arith, sum))
 
-  counted : (xs : List A) (b : Bool) → count_by p xs ≡ cond b 1 0 → list_any p xs ≡ b
+  pub counted : (xs : List A) (b : Bool) → count_by p xs ≡ cond b 1 0 → list_any p xs ≡ b
   counted xs true is = counted_some xs (omega (arith, is))
   counted xs false is = counted_none xs is
 

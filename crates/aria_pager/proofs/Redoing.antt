@@ -70,7 +70,7 @@ redone_more m m' m'' key number es fs first second = second ∙ ap (λ (x : ℕ 
 -- ---- the log
 
 -- a group of the log stands before its end
-rising_below : (low : ℕ) (before after : List Logged) (g : Logged) (end : ℕ) → AreRising low (before ++ g ∷ after) end → g.at < end
+pub rising_below : (low : ℕ) (before after : List Logged) (g : Logged) (end : ℕ) → AreRising low (before ++ g ∷ after) end → g.at < end
 rising_below low [] after g end is = ends (g.at + 1) after is.1 (omega arith)
   where
     ends : (low : ℕ) (gs : List Logged) → AreRising low gs end → g.at + 1 ≤ low → g.at < end

@@ -1,10 +1,11 @@
 -- What memory knows of the tables before groups are made again.
-use Rattle.std.specs.Prelude.{⊤, ◌-◌, ◌≡◌, ◌⊎◌, ◌&&◌, not, ℕ, ◌^◌, ◌≤◌, max, Bool, true, false, nat_lt, Option, None, Some, is_some, List, [], length, Result, IfErr, OnOk, IsErrOf, alloc_error}
+use Rattle.std.specs.Prelude.{⊤, ◌-◌, ◌≡◌, ◌⊎◌, ◌&&◌, not, ℕ, ◌^◌, ◌≤◌, max, Bool, true, false, nat_lt, Option, None, Some, is_some, List, [], length, Result, IfErr, OnOk, IsErrOf, alloc_error, All}
 use Rattle.std.specs.List.{list_any}
 use Rattle.std.specs.List.Sorted.{IsStrictlySortedBy}
 use Rattle.std.specs.Set.{is_member}
 use Rattle.std.specs.Ordering.{nat_cmp, eq_by_cmp}
 use Rattle.std.specs.Cmp.Lexicographic.{slice_cmp}
+use Rattle.aria_page.specs.Lsn.{IsLsn}
 use Rattle.aria_page.specs.declared.lsn.Lsn.{Lsn}
 use Rattle.aria_page.specs.declared.place.Part.{Part}
 use Rattle.aria_page.specs.declared.place.Part.TheVariants.{Keys, Rows}
@@ -22,6 +23,7 @@ use Rattle.aria_cache.specs.Frames.{held}
 use Rattle.aria_recovery.specs.Redo.{reach}
 use Rattle.aria_recovery.specs.Tables.{life_of, file}
 use Rattle.aria_recovery.specs.Noted.{told_of, is_of}
+use Rattle.aria_recovery.specs.Pending.{pending_of, oldest}
 use Rattle.aria_recovery.specs.declared.life.Told.{Told}
 use Rattle.aria_recovery.specs.declared.life.Told.TheVariants.{Nothing, Dropped, Made}
 use Rattle.aria_pager.specs.declared.page_store.PageStore.{PageStore}
@@ -105,10 +107,10 @@ has_slot (Some (Some n)) = true
 abbrev pub used_slot : List ℕ → FilePages → FilePages → Slot
 used_slot name keys rows = record { name = name; used = true; keys = keys; rows = rows }
 
--- A pager over a log that was started: no page is held, no table is known, and no group is open.
-pub record IsBlank (log' : LogValue) (pending' : List Lsn) (store : PageStore) : Type 0 where
+-- A pager over a log that was started, or was opened alone: no page is held, no table is known, and no group is open.
+pub record IsBlank (log' : LogValue) (started' : Bool) (pending' : List Lsn) (store : PageStore) : Type 0 where
   pub log : store.log ≡ log'
-  pub started : store.started ≡ true
+  pub started : store.started ≡ started'
   pub none : (k : ℕ) → held store.frames k ≡ None
   pub pins : store.frames.pins.items ≡ []
   pub empty : Writes store.writer []
@@ -117,6 +119,17 @@ pub record IsBlank (log' : LogValue) (pending' : List Lsn) (store : PageStore) :
   pub tables : (name : List ℕ) → known store name ≡ None
   pub pending : store.pending.items ≡ pending'
   pub kept : store.kept ≡ None
+
+-- THE TABLES ARE ENTERED in such a pager: each that needs a slot has one, and no page is held.
+pub record HasEntered (log' : LogValue) (started' : Bool) (folder : Folder) (groups : List Logged) (store : PageStore) : Type 0 where
+  pub log : store.log ≡ log'
+  pub started : store.started ≡ started'
+  pub none : (k : ℕ) → held store.frames k ≡ None
+  pub pins : store.frames.pins.items ≡ []
+  pub empty : Writes store.writer []
+  pub pending : All IsLsn (oldest (pending_of groups)) → store.pending.items ≡ oldest (pending_of groups)
+  pub entering : IsEntering store folder groups
+  pub have : (name : List ℕ) → needs_slot name groups ≡ true → HasSlot store name
 
 -- ---- faults
 

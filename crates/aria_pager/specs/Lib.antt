@@ -2,6 +2,7 @@ pub mod PageStore
 pub mod Pager
 pub mod Goes
 pub mod Grouping
+pub mod Prepared
 pub mod Steps
 pub mod Redone
 pub mod Settled
@@ -17,3 +18,8 @@ pub mod Committed
 pub mod Slotted
 pub mod Going
 pub mod Grouped
+pub mod Resting
+pub mod Found
+pub mod Opening
+pub mod Inspected
+pub mod Usable

@@ -11,10 +11,12 @@ use Rattle.aria_record.specs.declared.record.Record.{Record}
 use Rattle.aria_record.specs.Logged.{Logged, lsn_at_place}
 use Rattle.aria_record.specs.Writing.{records_of}
 use Rattle.aria_log.specs.Pieces.{log_files}
+use Rattle.aria_log.specs.declared.log.Log.{Log as LogValue}
 use Rattle.aria_log.specs.Log.{place}
 use Rattle.aria_log.specs.Reading.{Entry, next_place, StandsAt}
 use Rattle.aria_log.specs.Stepping.{groups_of}
 use Rattle.aria_cache.specs.Frames.{Held, redone_held}
+use Rattle.aria_recovery.specs.Redo.{number_at}
 use Rattle.aria_recovery.specs.Frames.{Spot, Progress, all_of}
 use Rattle.aria_recovery.specs.Tables.{file}
 use Rattle.aria_recovery.specs.Images.{page_of}
@@ -23,7 +25,7 @@ use Rattle.aria_recovery.specs.Analysed.{Has}
 use Rattle.aria_recovery.specs.declared.analysis.Analysis.{Analysis}
 use Rattle.aria_pager.specs.declared.page_store.PageStore.{PageStore}
 use Rattle.aria_pager.specs.PageStore.{late_seen}
-use Rattle.aria_pager.specs.Pager.{IsPagerAt, next_number}
+use Rattle.aria_pager.specs.Pager.{IsPagerAt}
 use Rattle.aria_pager.specs.Steps.{StepsAt, OfHold, damaged_at}
 
 -- the log stays, and its files do
@@ -82,10 +84,10 @@ abbrev pub IsEdited : List Logged → Spot → Type 0
 IsEdited groups s = is_some (last_edit s.name s.part s.page groups) ≡ true
 
 -- The page that the fault tells of is one that the groups edit: it isn't sound, or it is ahead of the log.
-abbrev pub OfEdited : PageStore → List Logged → Folder → Fault → Type 0
-OfEdited store groups folder (PageDamaged f n) = (s : Spot) × IsEdited groups s × (f ≡ file s.name s.part) × (n ≡ s.page) × (page_of folder s.name s.part s.page ≡ None)
-OfEdited store groups folder (LogDamaged f n) = (s : Spot) × IsEdited groups s × (LogDamaged f n ≡ damaged_at (lsn_at_place (place store.log))) × (late_seen (next_number store) (page_of folder s.name s.part s.page) ≡ true)
-OfEdited store groups folder _ = ⊤
+abbrev pub OfEdited : LogValue → List Logged → Folder → Fault → Type 0
+OfEdited log groups folder (PageDamaged f n) = (s : Spot) × IsEdited groups s × (f ≡ file s.name s.part) × (n ≡ s.page) × (page_of folder s.name s.part s.page ≡ None)
+OfEdited log groups folder (LogDamaged f n) = (s : Spot) × IsEdited groups s × (LogDamaged f n ≡ damaged_at (lsn_at_place (place log))) × (late_seen (number_at (place log)) (page_of folder s.name s.part s.page) ≡ true)
+OfEdited log groups folder _ = ⊤
 
 -- Groups are made again, or they aren't for one of these causes. Faults of the disk are counted, and come with no other answer.
 pub record HasRedoCause {T : Type 0} (tells : Bool) (store : PageStore) (old new : State) (result : Result T Fault) : Type 0 where

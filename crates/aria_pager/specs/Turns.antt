@@ -1,5 +1,5 @@
 -- What calls that append one group of their own do.
-use Rattle.std.specs.Prelude.{◌≡◌, if◌then◌else◌, ℕ, Bool, true, IsTrue, List, [], ◌∷◌, ◌++◌}
+use Rattle.std.specs.Prelude.{◌≡◌, if◌then◌else◌, ℕ, Bool, true, false, IsTrue, List, [], ◌∷◌, ◌++◌}
 use Rattle.std.specs.Global.{Vec}
 use Rattle.aria_page.specs.declared.lsn.Lsn.{Lsn}
 use Rattle.aria_page.specs.declared.place.Part.{Part}
@@ -82,3 +82,13 @@ pub record Turned (store store' : PageStore) (s s' : State) (base : ℕ) (start 
 abbrev pub new_file : List ℕ → Part → FileName
 new_file name Keys = files.NewKeys name
 new_file name Rows = files.NewRows name
+
+-- it is such a file
+abbrev pub is_aside : FileName → Bool
+is_aside (files.NewKeys name) = true
+is_aside (files.NewRows name) = true
+is_aside f = false
+
+-- all of them stay
+abbrev pub KeepsAside : Folder → Folder → Type 0
+KeepsAside old new = (f : FileName) → is_aside f ≡ true → new f ≡ old f

@@ -15,12 +15,13 @@ ghost use Rattle.aria_record.specs.Logged.{Logged, lsn_at_place};
 ghost use Rattle.aria_record.specs.Writing.{records_of};
 ghost use Rattle.aria_recovery.specs.Tables.{file};
 ghost use Rattle.aria_recovery.specs.Analysed.{Has};
+ghost use Rattle.aria_cache.specs.Frames.{held};
 ghost use Rattle.aria_pager.specs.Pager.{known};
 ghost use Rattle.aria_pager.specs.View.{IsTidy};
 ghost use Rattle.aria_pager.specs.Filing.{AreTidy, with_tables};
 ghost use Rattle.aria_pager.specs.Settled.{IsSettled};
 ghost use Rattle.aria_pager.specs.Redone.{BeginsRedo};
-ghost use Rattle.aria_pager.specs.Entered.{was_dropped, needs_slot, reach_of, is_listed, has_slot, used_slot, AreLow, AreListed, HasPages, IsEntering, HasSlot, KeepSlots, HaveSlots, IsBlank, LacksFile, LacksOne, HasMany, AreMany, HasEnterCause};
+ghost use Rattle.aria_pager.specs.Entered.{was_dropped, needs_slot, reach_of, is_listed, has_slot, used_slot, AreLow, AreListed, HasPages, IsEntering, HasSlot, KeepSlots, HaveSlots, IsBlank, HasEntered, LacksFile, LacksOne, HasMany, AreMany, HasEnterCause};
 
 use crate::page_store::PageStore;
 use crate::slot::{FilePages, Slot, file_of};
@@ -55,7 +56,7 @@ fn was_dropped(analysis: &Analysis, name: &Name) -> bool
 }
 
 // Whether the groups made the table last, or have records of its pages.
-fn needs_slot(analysis: &Analysis, name: &Name) -> bool
+pub(crate) fn needs_slot(analysis: &Analysis, name: &Name) -> bool
     ensures { (checkpoint : Number) (groups : Seq Logged) → Has checkpoint analysis.now groups → result ≡ needs_slot name.now groups }
 {
     let keys = analysis.reach(name, Part::Keys);
@@ -158,16 +159,23 @@ fn copied(alloc: Global, numbers: &[Lsn]) -> Result<Vec<Lsn>, AllocError>
 }
 
 impl PageStore {
-    // A pager over a log that was started, which knows of no table. It has room for so many pages, but for 64 at least.
-    fn over(alloc: Global, log: Log, pending: Vec<Lsn>, cache: u32) -> Result<PageStore, AllocError>
-        ensures { IfOk result (IsBlank log pending.items) }
+    // A pager over a log that was started, or was opened alone, which knows of no table. It has room for so many pages, but
+    // for 64 at least.
+    fn over(
+        alloc: Global,
+        log: Log,
+        started: bool,
+        pending: Vec<Lsn>,
+        cache: u32,
+    ) -> Result<PageStore, AllocError>
+        ensures { IfOk result (IsBlank log started pending.items) }
     {
         let most = NonZeroUsize::new(cache.max(FEWEST_PAGES) as usize).unwrap_or(NonZeroUsize::MIN);
         let frames = Frames::new(alloc, most)?;
         let writer = GroupWriter::new(alloc)?;
         Ok(PageStore {
             log,
-            started: true,
+            started,
             frames,
             writer,
             in_group: false,
@@ -268,6 +276,36 @@ impl PageStore {
     }
 }
 
+// Enters the tables in memory, over a log that was started, or was opened alone.
+pub(crate) fn enter_tables<H: Host>(
+    alloc: Global,
+    host: &mut H,
+    log: Log,
+    started: bool,
+    files: &[FileName],
+    analysis: &Analysis,
+    cache: u32,
+) -> Result<PageStore, Fault>
+    ensures entered { IsTrue H.tells → (checkpoint : Number) (groups : Seq Logged) → Has checkpoint analysis.now groups → AreLow groups → AreListed files.now (H.state host.old).folder groups → IfOk result (HasEntered log started (H.state host.old).folder groups) }
+    ensures none { IfOk result (λ store. (k : ℕ) → held store.frames k ≡ None) }
+    ensures missing { IsTrue H.tells → (checkpoint : Number) (groups : Seq Logged) → Has checkpoint analysis.now groups → IfErr result (LacksOne groups (H.state host.old).folder) }
+    ensures many { (checkpoint : Number) (groups : Seq Logged) → Has checkpoint analysis.now groups → IfErr result (AreMany groups) }
+    ensures tidy { IfOk result IsTidy }
+    ensures kept { IfOk result (λ store. store.kept ≡ None) }
+    ensures in_group { IfOk result (λ store. store.in_group ≡ false) }
+    ensures log { IfOk result (λ store. store.log ≡ log) }
+    ensures same { IsTrue H.tells → Unchanged (H.state host.old) (H.state host.new) }
+    ensures cause { HasEnterCause H.tells (H.state host.old) (H.state host.new) result }
+{
+    let _file = FileName::Control;
+    let names = analysis.names()?;
+    let pending = copied(alloc, analysis.pending())?;
+    let mut store = PageStore::over(alloc, log, started, pending, cache)?;
+    note_files(&mut store.tables, files, analysis)?;
+    store.give_slots(host, analysis, names.as_slice())?;
+    Ok(store)
+}
+
 /// Enters the tables in memory: each that the groups made, or of whose pages they have records, gets a slot, and each
 /// other one whose index file is listed is known without one. No group is made again yet.
 pub(crate) fn enter<H: Host>(
@@ -290,10 +328,5 @@ pub(crate) fn enter<H: Host>(
     ensures cause { HasEnterCause H.tells (H.state host.old) (H.state host.new) result }
 {
     let _file = FileName::Control;
-    let names = analysis.names()?;
-    let pending = copied(alloc, analysis.pending())?;
-    let mut store = PageStore::over(alloc, log, pending, cache)?;
-    note_files(&mut store.tables, files, analysis)?;
-    store.give_slots(host, analysis, names.as_slice())?;
-    Ok(store)
+    enter_tables(alloc, host, log, true, files, analysis, cache)
 }

@@ -12,6 +12,7 @@ ghost use Rattle.aria_pager.specs.Pager.{IsPagerAt, IsRunningAt, pages_in, with_
 ghost use Rattle.aria_pager.specs.Looks.{KeepsPages};
 ghost use Rattle.aria_pager.specs.Redone.{KeepsLog};
 ghost use Rattle.aria_pager.specs.Steps.{SameWork, StepsAt, ForcesAt};
+ghost use Rattle.aria_pager.specs.Turns.{KeepsAside};
 ghost use Rattle.aria_pager.specs.View.{IsTidy};
 ghost use Rattle.aria_log.specs.Log.{log_pages};
 
@@ -60,6 +61,7 @@ impl PageStore {
         ensures reach { log_pages self.new.log ≡ log_pages self.old.log }
         ensures quiet { IsTrue H.tells → self.old.log.used ≡ 0 → OnOk result (KeepsLog self.old self.new (H.state host.old).folder (H.state host.new).folder) }
         ensures pages { IsTrue H.tells → IsTidy self.old → KeepsPages self.old self.new (H.state host.old).folder (H.state host.new).folder }
+        ensures aside { IsTrue H.tells → KeepsAside (H.state host.old).folder (H.state host.new).folder }
         ensures same { SameWork self.old self.new }
         ensures cause { HasDiskCause (H.state host.old) (H.state host.new) result }
     {
@@ -83,6 +85,7 @@ impl PageStore {
         ensures reach { log_pages self.new.log ≡ log_pages self.old.log }
         ensures quiet { IsTrue H.tells → self.old.log.used ≡ 0 → OnOk result (KeepsLog self.old self.new (H.state host.old).folder (H.state host.new).folder) }
         ensures pages { IsTrue H.tells → IsTidy self.old → KeepsPages self.old self.new (H.state host.old).folder (H.state host.new).folder }
+        ensures aside { IsTrue H.tells → KeepsAside (H.state host.old).folder (H.state host.new).folder }
         ensures same { SameWork self.old self.new }
         ensures cause { HasDiskCause (H.state host.old) (H.state host.new) result }
     {
@@ -111,6 +114,7 @@ impl PageStore {
         ensures reach { log_pages self.new.log ≡ log_pages self.old.log }
         ensures quiet { IsTrue H.tells → self.old.log.used ≡ 0 → OnOk result (KeepsLog self.old self.new (H.state host.old).folder (H.state host.new).folder) }
         ensures pages { IsTrue H.tells → IsTidy self.old → KeepsPages self.old self.new (H.state host.old).folder (H.state host.new).folder }
+        ensures aside { IsTrue H.tells → KeepsAside (H.state host.old).folder (H.state host.new).folder }
         ensures same { SameWork self.old self.new }
         ensures cause { HasDiskCause (H.state host.old) (H.state host.new) result }
     {
@@ -138,6 +142,7 @@ impl PageStore {
         ensures reach { log_pages self.new.log ≡ log_pages self.old.log }
         ensures quiet { IsTrue H.tells → self.old.log.used ≡ 0 → OnOk result (KeepsLog self.old self.new (H.state host.old).folder (H.state host.new).folder) }
         ensures pages { IsTrue H.tells → IsTidy self.old → KeepsPages self.old self.new (H.state host.old).folder (H.state host.new).folder }
+        ensures aside { IsTrue H.tells → KeepsAside (H.state host.old).folder (H.state host.new).folder }
         ensures same { SameWork self.old self.new }
         ensures cause { HasDiskOrMemoryCause (H.state host.old) (H.state host.new) result }
     {
@@ -163,6 +168,7 @@ impl PageStore {
         ensures reach { log_pages self.new.log ≡ log_pages self.old.log }
         ensures quiet { IsTrue H.tells → self.old.log.used ≡ 0 → OnOk result (KeepsLog self.old self.new (H.state host.old).folder (H.state host.new).folder) }
         ensures pages { IsTrue H.tells → IsTidy self.old → KeepsPages self.old self.new (H.state host.old).folder (H.state host.new).folder }
+        ensures aside { IsTrue H.tells → KeepsAside (H.state host.old).folder (H.state host.new).folder }
         ensures same { SameWork self.old self.new }
         ensures cause { HasDiskOrMemoryCause (H.state host.old) (H.state host.new) result }
     {

@@ -12,6 +12,9 @@
 //! (docs/ARCHITECTURE.md, "How a page gets to the disk and back").
 #![tactic(auto)]
 
+mod analyse;
+mod at_rest;
+mod begin;
 mod close;
 mod commit;
 mod create;
@@ -22,19 +25,30 @@ mod end;
 mod end_kept;
 mod enter;
 mod evict;
+mod find;
 mod force;
 mod leftover;
 mod load;
+mod look;
+mod maker;
 mod new_table;
+mod open;
 mod page_store;
 mod pager;
+mod prepare;
 mod reading;
 mod redo;
 mod reserve;
+mod settle;
+mod settle_names;
 mod slot;
 mod table;
 mod undo;
 mod view;
 
+pub use look::Looked;
 pub use page_store::PageStore;
 pub use pager::Pager;
+
+#[cfg(test)]
+mod tests;

@@ -1,6 +1,6 @@
 //! Pages are brought into memory.
 
-ghost use Rattle.std.specs.Prelude.{◌≡◌, ◌<◌, ◌^◌, ℕ, List, IsTrue, None, is_some, is_ok, IfOk, OnOk, OnErr};
+ghost use Rattle.std.specs.Prelude.{◌≡◌, ◌<◌, ◌^◌, ℕ, List, true, IsTrue, None, is_some, is_ok, IfOk, IfErr, OnOk, OnErr};
 ghost use Rattle.aria_host.specs.Calls.{HasDiskCause, Unchanged};
 ghost use Rattle.aria_host.specs.Folder.{Folder, IsFileName, page_count};
 ghost use Rattle.aria_host.specs.Seen.{page_or_zero};
@@ -10,8 +10,9 @@ ghost use Rattle.aria_cache.specs.Frames.{held, front, shown, count, room};
 ghost use Rattle.aria_pager.specs.PageStore.{name_at};
 ghost use Rattle.aria_pager.specs.Pager.{IsPagerAt, IsRunningAt};
 ghost use Rattle.aria_pager.specs.Looks.{KeepsPages};
-ghost use Rattle.aria_pager.specs.Redone.{KeepsLog};
+ghost use Rattle.aria_pager.specs.Redone.{KeepsLog, is_log_damage};
 ghost use Rattle.aria_pager.specs.Steps.{SameWork, StepsAt, IsRead, HasHoldCause, damaged_at};
+ghost use Rattle.aria_pager.specs.Turns.{KeepsAside};
 ghost use Rattle.aria_pager.specs.View.{IsTidy};
 ghost use Rattle.aria_log.specs.Log.{log_pages};
 ghost use Rattle.aria_recovery.specs.Frames.{Progress};
@@ -100,9 +101,11 @@ impl PageStore {
         ensures held { OnOk result (IsTrue (is_some (held self.new.frames (key_of at)))) }
         ensures front { OnOk result (front self.new.frames ≡ held self.new.frames (key_of at)) }
         ensures gone { OnErr result (held self.new.frames (key_of at) ≡ None) }
+        ensures log { self.new.log ≡ self.old.log }
         ensures reach { log_pages self.new.log ≡ log_pages self.old.log }
         ensures quiet { IsTrue H.tells → self.old.log.used ≡ 0 → OnOk result (KeepsLog self.old self.new (H.state host.old).folder (H.state host.new).folder) }
         ensures pages { IsTrue H.tells → IsTidy self.old → KeepsPages self.old self.new (H.state host.old).folder (H.state host.new).folder }
+        ensures aside { IsTrue H.tells → KeepsAside (H.state host.old).folder (H.state host.new).folder }
         ensures same { SameWork self.old self.new }
         ensures cause { HasHoldCause H.tells self.new (key_of at) (H.state host.old) (H.state host.new) result }
     {
@@ -134,7 +137,9 @@ impl PageStore {
         ensures gone { OnErr result (held self.new.frames (key_of at) ≡ None) }
         ensures reach { log_pages self.new.log ≡ log_pages self.old.log }
         ensures quiet { IsTrue H.tells → self.old.log.used ≡ 0 → OnOk result (KeepsLog self.old self.new (H.state host.old).folder (H.state host.new).folder) }
+        ensures late { IsTrue H.tells → self.old.log.used ≡ 0 → IfErr result (λ fault. is_log_damage fault ≡ true → self.new.log ≡ self.old.log) }
         ensures pages { IsTrue H.tells → IsTidy self.old → KeepsPages self.old self.new (H.state host.old).folder (H.state host.new).folder }
+        ensures aside { IsTrue H.tells → KeepsAside (H.state host.old).folder (H.state host.new).folder }
         ensures same { SameWork self.old self.new }
         ensures cause { HasHoldCause H.tells self.new (key_of at) (H.state host.old) (H.state host.new) result }
     {

@@ -1,6 +1,6 @@
 //! What is read of the log: its end, the undo record that is undone next, and its groups.
 
-ghost use Rattle.std.specs.Prelude.{◌≡◌, ℕ, List, reverse, Some, None, IsTrue, IsSome, IfSome, IfOk};
+ghost use Rattle.std.specs.Prelude.{◌≡◌, ℕ, Bool, List, reverse, Some, None, IsTrue, IsSome, IfSome, IfOk};
 ghost use Rattle.aria_host.specs.Calls.{Unchanged};
 ghost use Rattle.aria_host.specs.Folder.{Folder};
 ghost use Rattle.aria_record.specs.Groups.{IsGroup};
@@ -9,7 +9,7 @@ ghost use Rattle.aria_log.specs.Log.{place};
 ghost use Rattle.aria_cache.specs.Calls.{fault_of};
 ghost use Rattle.aria_cache.specs.Ending.{newest};
 ghost use Rattle.aria_pager.specs.PageStore.{with_rest};
-ghost use Rattle.aria_pager.specs.Pager.{IsPager, Standing};
+ghost use Rattle.aria_pager.specs.Pager.{LogOf, IsPager, Standing};
 ghost use Rattle.aria_pager.specs.Goes.{Stays};
 ghost use Rattle.aria_pager.specs.View.{IsTidy};
 ghost use Rattle.aria_pager.specs.Grouped.{IsGroupAt, HasGroupCause};
@@ -17,7 +17,7 @@ ghost use Rattle.aria_pager.specs.Grouped.{IsGroupAt, HasGroupCause};
 use crate::load::log_damaged;
 use crate::page_store::PageStore;
 use aria_host::{Fault, FileName, Host};
-use aria_log::{Reader, Step};
+use aria_log::{Log, Reader, Step};
 use aria_page::Lsn;
 use aria_record::Group;
 use std::alloc::Global;
@@ -29,6 +29,37 @@ fn fault_of_group(answer: &Result<Group, Fault>) -> Option<Fault>
     match answer {
         Ok(_) => None,
         Err(fault) => Some(*fault),
+    }
+}
+
+/// The group that stands at a place of the log.
+pub(crate) fn group_in<H: Host>(
+    alloc: Global,
+    host: &mut H,
+    log: &Log,
+    at: Lsn,
+) -> Result<Group, Fault>
+    requires there { IsTrue H.tells → (started : Bool) × (base : ℕ) × (groups : List Logged) × (forced : ℕ) × (g : Logged) × LogOf started log.now (H.state host.old) base groups forced × IsGroupAt groups at g }
+    ensures group { IsTrue H.tells → (started : Bool) (base : ℕ) (groups : List Logged) (forced : ℕ) (g : Logged) → LogOf started log.now (H.state host.old) base groups forced → IsGroupAt groups at g
+        → IfOk result (λ group. group ≡ g.group) }
+    ensures is { IfOk result IsGroup }
+    ensures same { IsTrue H.tells → Unchanged (H.state host.old) (H.state host.new) }
+    ensures cause { HasGroupCause H.tells (H.state host.old) (H.state host.new) result }
+{
+    let _file = FileName::Control;
+    let mut reader = Reader::new();
+    match log.next(alloc, host, &mut reader, at)? {
+        Step::Group {
+            at: _,
+            group,
+            after: _,
+        } => Ok(group),
+        Step::Rest {
+            at: _,
+            bytes: _,
+            after: _,
+        } => Err(log_damaged(at)),
+        Step::End => Err(log_damaged(at)),
     }
 }
 
@@ -64,20 +95,7 @@ impl PageStore {
         ensures cause { HasGroupCause H.tells (H.state host.old) (H.state host.new) result }
     {
         let _file = FileName::Control;
-        let mut reader = Reader::new();
-        match self.log.next(alloc, host, &mut reader, at)? {
-            Step::Group {
-                at: _,
-                group,
-                after: _,
-            } => Ok(group),
-            Step::Rest {
-                at: _,
-                bytes: _,
-                after: _,
-            } => Err(log_damaged(at)),
-            Step::End => Err(log_damaged(at)),
-        }
+        group_in(alloc, host, &self.log, at)
     }
 
     /// The group of the log that has this log sequence number.

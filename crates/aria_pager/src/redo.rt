@@ -22,7 +22,8 @@ ghost use Rattle.aria_recovery.specs.Midway.{raised, midway, EditsPage, is_count
 ghost use Rattle.aria_pager.specs.PageStore.{name_at, spot_of};
 ghost use Rattle.aria_pager.specs.Pager.{IsRunningAt, known};
 ghost use Rattle.aria_pager.specs.Steps.{SameWork, HasHoldCause};
-ghost use Rattle.aria_pager.specs.Redone.{redone_by, is_older, IsRedoing, Redoes, IsAtGroup, IsWalking, Walks, BeginsRedo, OfEdited, HasRedoCause};
+ghost use Rattle.aria_pager.specs.Redone.{redone_by, is_older, IsRedoing, Redoes, IsAtGroup, IsWalking, Walks, BeginsRedo, OfEdited, is_log_damage, HasRedoCause};
+ghost use Rattle.aria_pager.specs.Turns.{KeepsAside};
 
 use crate::page_store::PageStore;
 use aria_cache::{Frames, PageId};
@@ -33,7 +34,7 @@ use aria_record::Record;
 use aria_recovery::{Analysis, Told};
 use std::alloc::Global;
 
-fn is_before(a: Lsn, b: Lsn) -> bool
+pub(crate) fn is_before(a: Lsn, b: Lsn) -> bool
     ensures { result ≡ nat_lt (lsn_number a) (lsn_number b) }
 {
     a.is_before(b)
@@ -148,6 +149,8 @@ impl PageStore {
         ensures redoes { IsTrue H.tells → (redone : Progress) (base : ℕ) (start : Folder) (groups : Seq Logged) (forced : ℕ) → IsRedoing self.old (H.state host.old) redone base start groups forced
             → (before after : Seq Logged) (place : ℕ) → lsn ≡ lsn_at_place place → EditsPage (spot_of self.old) redone groups before after (record { at = place; group = group.now }) (key_of at) (record { name = name.now; part = at.part; page = at.page })
             → Redoes self.old self.new (H.state host.old) (H.state host.new) (raised (key_of at) (length before + 1) redone) base start groups forced (is_ok result) }
+        ensures late { IsTrue H.tells → self.old.log.used ≡ 0 → IfErr result (λ fault. is_log_damage fault ≡ true → self.new.log ≡ self.old.log) }
+        ensures aside { IsTrue H.tells → KeepsAside (H.state host.old).folder (H.state host.new).folder }
         ensures same { SameWork self.old self.new }
         ensures cause { HasHoldCause H.tells self.new (key_of at) (H.state host.old) (H.state host.new) result }
     {
@@ -180,11 +183,12 @@ impl PageStore {
             → (passed rest : Seq RecordValue) (kind : RedoKind) (edits : Seq EditValue) → group.now ≡ passed ++ RedoValue kind name.now part page edits ∷ rest → is_some_edit edits ≡ true
             → IsRedoing self.old (H.state host.old) (midway groups (length before) passed (spot_of self.old)) base start groups forced
             → Redoes self.old self.new (H.state host.old) (H.state host.new) (midway groups (length before) (passed ++ RedoValue kind name.now part page edits ∷ []) (spot_of self.old)) base start groups forced (is_ok result) }
+        ensures aside { IsTrue H.tells → KeepsAside (H.state host.old).folder (H.state host.new).folder }
         ensures same { SameWork self.old self.new }
         ensures edited { IsTrue H.tells → (base : ℕ) (start : Folder) (groups : Seq Logged) (forced : ℕ) (before after : Seq Logged) (place : ℕ) → IsAtGroup analysis.now lsn group.now groups before after place
             → (passed rest : Seq RecordValue) (kind : RedoKind) (edits : Seq EditValue) → group.now ≡ passed ++ RedoValue kind name.now part page edits ∷ rest → is_some_edit edits ≡ true
             → IsRedoing self.old (H.state host.old) (midway groups (length before) passed (spot_of self.old)) base start groups forced
-            → IfErr result (OfEdited self.new groups (H.state host.new).folder) }
+            → IfErr result (OfEdited self.old.log groups (H.state host.new).folder) }
         ensures cause { HasRedoCause H.tells self.new (H.state host.old) (H.state host.new) result }
     {
         let _file = FileName::Control;
@@ -214,11 +218,12 @@ impl PageStore {
             → (passed rest : Seq RecordValue) → group.now ≡ passed ++ entry.now ∷ rest
             → IsRedoing self.old (H.state host.old) (midway groups (length before) passed (spot_of self.old)) base start groups forced
             → Redoes self.old self.new (H.state host.old) (H.state host.new) (midway groups (length before) (passed ++ entry.now ∷ []) (spot_of self.old)) base start groups forced (is_ok result) }
+        ensures aside { IsTrue H.tells → KeepsAside (H.state host.old).folder (H.state host.new).folder }
         ensures same { SameWork self.old self.new }
         ensures edited { IsTrue H.tells → (base : ℕ) (start : Folder) (groups : Seq Logged) (forced : ℕ) (before after : Seq Logged) (place : ℕ) → IsAtGroup analysis.now lsn group.now groups before after place
             → (passed rest : Seq RecordValue) → group.now ≡ passed ++ entry.now ∷ rest
             → IsRedoing self.old (H.state host.old) (midway groups (length before) passed (spot_of self.old)) base start groups forced
-            → IfErr result (OfEdited self.new groups (H.state host.new).folder) }
+            → IfErr result (OfEdited self.old.log groups (H.state host.new).folder) }
         ensures cause { HasRedoCause H.tells self.new (H.state host.old) (H.state host.new) result }
     {
         let _file = FileName::Control;
@@ -248,9 +253,10 @@ impl PageStore {
         ensures redoes { IsTrue H.tells → (base : ℕ) (start : Folder) (groups : Seq Logged) (forced : ℕ) (before after : Seq Logged) (place : ℕ) → IsAtGroup analysis.now lsn group.now groups before after place
             → IsRedoing self.old (H.state host.old) (λ k. length before) base start groups forced
             → Redoes self.old self.new (H.state host.old) (H.state host.new) (λ k. length before + 1) base start groups forced (is_ok result) }
+        ensures aside { IsTrue H.tells → KeepsAside (H.state host.old).folder (H.state host.new).folder }
         ensures same { SameWork self.old self.new }
         ensures edited { IsTrue H.tells → (base : ℕ) (start : Folder) (groups : Seq Logged) (forced : ℕ) (before after : Seq Logged) (place : ℕ) → IsAtGroup analysis.now lsn group.now groups before after place
-            → IsRedoing self.old (H.state host.old) (λ k. length before) base start groups forced → IfErr result (OfEdited self.new groups (H.state host.new).folder) }
+            → IsRedoing self.old (H.state host.old) (λ k. length before) base start groups forced → IfErr result (OfEdited self.old.log groups (H.state host.new).folder) }
         ensures cause { HasRedoCause H.tells self.new (H.state host.old) (H.state host.new) result }
     {
         let _file = FileName::Control;
@@ -274,9 +280,10 @@ impl PageStore {
         ensures walks { IsTrue H.tells → (before more : Seq Entry) (base : ℕ) (start : Folder) (groups : Seq Logged) (forced : ℕ) → IsWalking self.old (H.state host.old) analysis.now from before more base start groups forced
             → Walks self.old self.new (H.state host.old) (H.state host.new) before more base start groups forced result }
         ensures reader { IsTrue H.tells → OnOk result (IsReader reader.new (log_files (H.state host.new).folder)) }
+        ensures aside { IsTrue H.tells → KeepsAside (H.state host.old).folder (H.state host.new).folder }
         ensures same { SameWork self.old self.new }
         ensures edited { IsTrue H.tells → (before more : Seq Entry) (base : ℕ) (start : Folder) (groups : Seq Logged) (forced : ℕ) → IsWalking self.old (H.state host.old) analysis.now from before more base start groups forced
-            → IfErr result (OfEdited self.new groups (H.state host.new).folder) }
+            → IfErr result (OfEdited self.old.log groups (H.state host.new).folder) }
         ensures cause { HasRedoCause H.tells self.new (H.state host.old) (H.state host.new) result }
     {
         let _file = FileName::Control;
@@ -302,9 +309,10 @@ impl PageStore {
         requires begins { IsTrue H.tells → (base : ℕ) × (start : Folder) × (groups : Seq Logged) × (forced : ℕ) × BeginsRedo self.old (H.state host.old) analysis.now from base start groups forced }
         ensures redoes { IsTrue H.tells → (base : ℕ) (start : Folder) (groups : Seq Logged) (forced : ℕ) → BeginsRedo self.old (H.state host.old) analysis.now from base start groups forced
             → Redoes self.old self.new (H.state host.old) (H.state host.new) (all_of groups) base start groups forced (is_ok result) }
+        ensures aside { IsTrue H.tells → KeepsAside (H.state host.old).folder (H.state host.new).folder }
         ensures same { SameWork self.old self.new }
         ensures edited { IsTrue H.tells → (base : ℕ) (start : Folder) (groups : Seq Logged) (forced : ℕ) → BeginsRedo self.old (H.state host.old) analysis.now from base start groups forced
-            → IfErr result (OfEdited self.new groups (H.state host.new).folder) }
+            → IfErr result (OfEdited self.old.log groups (H.state host.new).folder) }
         ensures cause { HasRedoCause H.tells self.new (H.state host.old) (H.state host.new) result }
     {
         let _file = FileName::Control;

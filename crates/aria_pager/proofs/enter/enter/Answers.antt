@@ -1,66 +1,15 @@
-use Rattle.std.proofs.Common.{◌≡◌, ◌∙◌, ℕ, ◌+◌, List, [], length, cond, Some, None, ap, sym, refl, subst}
-use Rattle.std.specs.Prelude.{All}
-use Rattle.aria_page.specs.Lsn.{IsLsn}
-use Rattle.aria_record.specs.Writing.{Writes}
-use Rattle.aria_record.proofs.Writers.{written_is}
-use Rattle.aria_log.specs.declared.log.Log.{Log as LogValue}
-use Rattle.aria_cache.specs.Frames.{held}
-use Rattle.aria_pager.specs.declared.page_store.PageStore.{PageStore}
-use Rattle.aria_pager.specs.Filing.{with_tables}
-use Rattle.aria_pager.specs.Settled.{IsSettled}
-use Rattle.aria_pager.specs.Entered.{HasMany, AreMany, HaveSlots, is_listed}
-use Rattle.aria_pager.proofs.Stepping.{pager_look}
-use Rattle.std.proofs.lemmas.Result.{err_from_is_err_and}
-use Rattle.aria_pager.proofs.Again.{if_err_at}
-use Rattle.aria_pager.proofs.Given.{are_many, tidy_blank, entering_begun}
-use Rattle.aria_pager.proofs.Entered.{oldest_fit, tidy_entered, entered}
+use Rattle.std.specs.Prelude.{true, length}
+use Rattle.std.proofs.lemmas.Result.{IfOk-weaker}
+use Rattle.aria_record.specs.Logged.{lsn_at_place}
+use Rattle.aria_pager.specs.Redone.{BeginsRedo}
+use Rattle.aria_pager.specs.Entered.{HasEntered}
+use Rattle.aria_pager.proofs.Entered.{begins}
 use Rattle.aria_pager.proofs.enter.enter.Goals as goal
 
 pub returns-clause-begins : goal.returns-clause-begins
 returns-clause-begins g c = λ told checkpoint base start groups settled has low listed.
-    let b = c.in_ok-store.store in
-    let noted : PageStore = with_tables b b.frames b.slots c.note_files.new.tables in
-    let n : PageStore = c.give_slots.new.self in
     let s = g.H.Host.state c.args.host.now in
-    let t = g.H.Host.state c.give_slots.new.host in
-    let blank = c.in_ok-store.ensures in
-    let rest : n ≡ with_tables noted noted.frames n.slots n.tables = c.in_ok-give_slots.ensures.rest in
-    let names : List (List ℕ) = c.in_ok-names.names.items in
-    let log_is : n.log ≡ c.args.log = ap (λ (v : PageStore). v.log) rest ∙ blank.log in
-    let begun = entering_begun noted s.folder groups c.args.files.now blank.slots (λ q. c.in_ok-note_files.ensures checkpoint groups has q ∙ ap (cond (is_listed c.args.files.now groups q) (Some None)) (blank.tables q)) listed in
-    let both = c.in_ok-give_slots.ensures.enters told checkpoint groups has low (written_is b.writer [] blank.empty) begun in
-    let have : HaveSlots n groups names = subst (λ (l : List (List ℕ)). HaveSlots n groups l) c.as_slice.ensures.value both.1 in
-    let empty : Writes n.writer [] = subst (λ (v : PageStore). Writes v.writer []) (sym rest) blank.empty in
-    let is : IsSettled n.log s base start groups = subst (λ (l : LogValue). IsSettled l s base start groups) (sym log_is) settled in
-    let oldest_is = c.pending.ensures checkpoint groups has in
-    let pending = ap (λ (v : PageStore). v.pending.items) rest ∙ blank.pending ∙ c.in_ok-pending.ensures.same (subst (All IsLsn) (sym oldest_is) (oldest_fit n.log s base groups _ is.log)) ∙ oldest_is in
-    let started = ap (λ (v : PageStore). v.started) rest ∙ blank.started in
-    record {
-      redoing = record {
-        pager = pager_look n s t (λ k. 0) base start groups _ (c.in_ok-give_slots.ensures.same told)
-            (entered n s base start groups checkpoint c.args.analysis.now names is has both.0 have (c.in_ok-names.ensures.all checkpoint groups has) started (λ k. ap (λ (v : PageStore). held v.frames k) rest ∙ blank.none k) (ap (λ (v : PageStore). v.frames.pins.items) rest ∙ blank.pins) empty pending);
-        started = started;
-        none = written_is n.writer [] empty;
-        idle = is.idle;
-      };
-      knows = record { checkpoint = checkpoint; has = has };
-      from_is = refl;
-    }
-
-pub returns-clause-tidy : goal.returns-clause-tidy
-returns-clause-tidy g c =
-    let b = c.in_ok-store.store in
-    let noted : PageStore = with_tables b b.frames b.slots c.note_files.new.tables in
-    let n : PageStore = c.give_slots.new.self in
-    let blank = c.in_ok-store.ensures in
-    let rest : n ≡ with_tables noted noted.frames n.slots n.tables = c.in_ok-give_slots.ensures.rest in
-    tidy_entered n (c.in_ok-give_slots.ensures.tidy (tidy_blank noted blank.slots)) (subst (λ (v : PageStore). Writes v.writer []) (sym rest) blank.empty)
-    (subst (All IsLsn) (sym (ap (λ (v : PageStore). v.pending.items) rest ∙ blank.pending)) c.in_ok-pending.ensures.fits)
-
-pub returns-in_err-give_slots-clause-many : goal.returns-in_err-give_slots-clause-many
-returns-in_err-give_slots-clause-many g c = λ checkpoint groups has.
-    let e = err_from_is_err_and c.from_residual-in_err-give_slots.result c.from_residual-in_err-give_slots.ensures.1 in
-    let names : List (List ℕ) = c.in_ok-names.names.items in
-    if_err_at c.from_residual-in_err-give_slots.result (AreMany groups) e.0 c.in_err-give_slots.field-0.0 e.1 e.2
-    (are_many groups c.in_ok-store.store.slots names c.in_err-give_slots.field-0.0 c.in_ok-store.ensures.slots c.in_ok-names.ensures.ordered (c.in_ok-names.ensures.all checkpoint groups has)
-    (subst (λ (l : List (List ℕ)). HasMany (length c.in_ok-store.store.slots + length l) c.in_err-give_slots.field-0.0) c.as_slice.ensures.value c.in_err-give_slots.ensures.many))
+    let t = g.H.Host.state c.enter_tables.new.host in
+    IfOk-weaker c.enter_tables.result (HasEntered c.args.log true s.folder groups) (λ store. BeginsRedo store t c.args.analysis.now (lsn_at_place base) base start groups (length groups))
+    (λ store is. begins c.args.log store s t base start groups checkpoint c.args.analysis.now settled has (c.enter_tables.ensures.same told) is)
+    (c.enter_tables.ensures.entered told checkpoint groups has low listed)

@@ -27,7 +27,7 @@ use Rattle.aria_pager.specs.Shows.{HasLookCause}
 use Rattle.aria_pager.specs.View.{HasEdits, loaded_body}
 use Rattle.aria_pager.proofs.Viewing.{tidy_same}
 use Rattle.aria_pager.proofs.Lending.{open_name}
-use Rattle.aria_pager.proofs.Looked.{look_cause}
+use Rattle.aria_pager.proofs.Glanced.{look_cause}
 use Rattle.aria_pager.proofs.Edited.{Edited, past_zero, counts_edited, bodies_edited, late_edited}
 use Rattle.aria_pager.proofs.Pushing.{tidy_edited, tidy_failed}
 use Rattle.aria_pager.proofs.page_store.PageStore.edit.Goals as goal

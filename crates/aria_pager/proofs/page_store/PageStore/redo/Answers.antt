@@ -3,6 +3,7 @@ use Rattle.std.proofs.lemmas.Bool.{cases_Bool}
 use Rattle.std.proofs.lemmas.Result.{err_from_is_err_and}
 use Rattle.aria_host.proofs.Moments.{unchanged_now}
 use Rattle.aria_log.specs.Pieces.{log_files}
+use Rattle.aria_log.specs.declared.log.Log.{Log as LogValue}
 use Rattle.aria_pager.specs.Redone.{OfEdited, Redoes}
 use Rattle.aria_pager.proofs.Stepping.{same_after}
 use Rattle.aria_pager.proofs.Again.{cause_on, if_err_at}
@@ -14,6 +15,7 @@ loop-nth-init g c = record {
   walked = λ told base start groups forced begins. walked_none c.args.self.now (g.H.Host.state c.args.host.now) c.args.analysis.now c.args.from base start groups forced (λ f b left. g.met.H.Host.only_now c.args.host.now f b told left) (g.met.H.Host.reads_now c.args.host.now told) (unchanged_now (g.H.Host.state c.args.host.now)) begins;
   reader = λ told. c.new-reader.ensures.reader (log_files (g.H.Host.state c.args.host.now).folder);
   same = search rules;
+  aside = λ told f aside. refl;
   disk = refl;
   tell = refl;
 }
@@ -77,6 +79,7 @@ loop-nth-preserved g c = record {
       (rw c.in-Some.is at (c.in_ok-redo_step.ensures.walks told w.passed w.left base start groups w.redoes.steps.forced' (walking a l s t c.args.analysis.now c.args.from c.loop-nth.at c.loop-nth._nth base start groups forced begins c.loop-nth.invariant.same w)));
   reader = c.in_ok-redo_step.ensures.reader;
   same = same_after c.args.self.now c.loop-nth.self c.redo_step.new.self c.loop-nth.invariant.same c.in_ok-redo_step.ensures.same;
+  aside = λ told f aside. c.in_ok-redo_step.ensures.aside told f aside ∙ c.loop-nth.invariant.aside told f aside;
   disk = c.in_ok-redo_step.ensures.cause.calm ∙ c.loop-nth.invariant.disk;
   tell = c.in_ok-redo_step.ensures.cause.tell ∙ c.loop-nth.invariant.tell;
 }
@@ -106,12 +109,23 @@ pub returns-in_err-redo_step-clause-edited : goal.returns-in_err-redo_step-claus
 returns-in_err-redo_step-clause-edited g c = λ told base start groups forced begins.
     let e = err_from_is_err_and c.from_residual.result c.from_residual.ensures.1 in
     let w = c.loop-nth.invariant.walked told base start groups forced begins in
-    if_err_at c.from_residual.result (OfEdited c.redo_step.new.self groups (g.H.Host.state c.redo_step.new.host).folder) e.0 c.in_err-redo_step.field-0.0 e.1 e.2
+    let d = (g.H.Host.state c.redo_step.new.host).folder in
+    if_err_at c.from_residual.result (OfEdited c.args.self.now.log groups d) e.0 c.in_err-redo_step.field-0.0 e.1 e.2
+    (subst (λ (l : LogValue). OfEdited l groups d c.in_err-redo_step.field-0.0) (w.redoes.log refl).log
     (c.in_err-redo_step.ensures.edited told w.passed w.left base start groups w.redoes.steps.forced'
-    (walking c.args.self.now c.loop-nth.self (g.H.Host.state c.args.host.now) (g.H.Host.state c.loop-nth.host) c.args.analysis.now c.args.from c.loop-nth.at c.loop-nth._nth base start groups forced begins c.loop-nth.invariant.same w))
+    (walking c.args.self.now c.loop-nth.self (g.H.Host.state c.args.host.now) (g.H.Host.state c.loop-nth.host) c.args.analysis.now c.args.from c.loop-nth.at c.loop-nth._nth base start groups forced begins c.loop-nth.invariant.same w)))
 
 pub returns-clause-edited : goal.returns-clause-edited
 returns-clause-edited g c = λ told base start groups forced begins.
     let w = c.loop-nth.invariant.walked told base start groups forced begins in
     let few = walked_few c.args.self.now c.loop-nth.self (g.H.Host.state c.args.host.now) (g.H.Host.state c.loop-nth.host) c.args.analysis.now c.args.from c.loop-nth.at c.loop-nth._nth base start groups forced begins c.loop-nth.invariant.same w in
     absurd (omega (arith, c.loop-nth-test.false, few))
+
+pub returns-in_err-redo_step-clause-aside : goal.returns-in_err-redo_step-clause-aside
+returns-in_err-redo_step-clause-aside g c = λ told f aside. c.in_err-redo_step.ensures.aside told f aside ∙ c.loop-nth.invariant.aside told f aside
+
+pub returns-in-None-clause-aside : goal.returns-in-None-clause-aside
+returns-in-None-clause-aside g c = λ told f aside. c.in_ok-redo_step.ensures.aside told f aside ∙ c.loop-nth.invariant.aside told f aside
+
+pub returns-clause-aside : goal.returns-clause-aside
+returns-clause-aside g c = c.loop-nth.invariant.aside

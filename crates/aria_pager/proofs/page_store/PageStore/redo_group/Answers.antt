@@ -4,6 +4,7 @@ use Rattle.std.proofs.lemmas.Result.{err_from_is_err_and}
 use Rattle.aria_record.specs.declared.record.Record.{Record}
 use Rattle.aria_recovery.specs.Midway.{midway}
 use Rattle.aria_pager.specs.PageStore.{spot_of}
+use Rattle.aria_log.specs.declared.log.Log.{Log as LogValue}
 use Rattle.aria_pager.specs.Redone.{Redoes, OfEdited}
 use Rattle.aria_pager.proofs.Stepping.{same_after}
 use Rattle.aria_pager.proofs.Again.{redoes_begun, redoes_ended, redoes_entry, here_now, around, one_more, cause_on, redoes_fault, if_err_at}
@@ -14,6 +15,7 @@ loop-entry-init g c = record {
   redoes = λ told base start groups forced before after place at is.
       redoes_begun c.args.self.now (g.H.Host.state c.args.host.now) base start groups forced (length before) (λ f b left. g.met.H.Host.only_now c.args.host.now f b told left) (g.met.H.Host.reads_now c.args.host.now told) is;
   same = search rules;
+  aside = λ told f aside. refl;
   disk = refl;
   tell = refl;
 }
@@ -64,6 +66,7 @@ loop-entry-preserved g c =
           (redoes_entry a l n s t u base start groups forced (length before) (take i group) (take i group ++ c.entry-item.result ∷ []) true is c.loop-entry.invariant.same first
           (λ now. c.in_ok-redo_record.ensures.redoes told base start groups first.steps.forced' before after place at (take i group) (drop (suc i) group) (around group i c.entry-item.result c.loop-entry-test.true c.entry-item.is) now));
       same = same_after a l n c.loop-entry.invariant.same c.in_ok-redo_record.ensures.same;
+      aside = λ told f aside. c.in_ok-redo_record.ensures.aside told f aside ∙ c.loop-entry.invariant.aside told f aside;
       disk = c.in_ok-redo_record.ensures.cause.calm ∙ c.loop-entry.invariant.disk;
       tell = c.in_ok-redo_record.ensures.cause.tell ∙ c.loop-entry.invariant.tell;
     }
@@ -89,6 +92,14 @@ returns-in_err-redo_record-clause-edited g c = λ told base start groups forced 
     let group : List Record = c.args.group.now in
     let e = err_from_is_err_and c.from_residual.result c.from_residual.ensures.1 in
     let first = c.loop-entry.invariant.redoes told base start groups forced before after place at is in
-    if_err_at c.from_residual.result (OfEdited c.redo_record.new.self groups (g.H.Host.state c.redo_record.new.host).folder) e.0 c.in_err-redo_record.field-0.0 e.1 e.2
+    let d = (g.H.Host.state c.redo_record.new.host).folder in
+    if_err_at c.from_residual.result (OfEdited c.args.self.now.log groups d) e.0 c.in_err-redo_record.field-0.0 e.1 e.2
+    (subst (λ (l : LogValue). OfEdited l groups d c.in_err-redo_record.field-0.0) (first.log refl).log
     (c.in_err-redo_record.ensures.edited told base start groups first.steps.forced' before after place at (take i group) (drop (suc i) group) (around group i c.entry-item.result c.loop-entry-test.true c.entry-item.is)
-    (here_now c.args.self.now c.loop-entry.self (g.H.Host.state c.args.host.now) (g.H.Host.state c.loop-entry.host) base start groups forced (length before) (take i group) is c.loop-entry.invariant.same first))
+    (here_now c.args.self.now c.loop-entry.self (g.H.Host.state c.args.host.now) (g.H.Host.state c.loop-entry.host) base start groups forced (length before) (take i group) is c.loop-entry.invariant.same first)))
+
+pub returns-in_err-redo_record-clause-aside : goal.returns-in_err-redo_record-clause-aside
+returns-in_err-redo_record-clause-aside g c = λ told f aside. c.in_err-redo_record.ensures.aside told f aside ∙ c.loop-entry.invariant.aside told f aside
+
+pub returns-clause-aside : goal.returns-clause-aside
+returns-clause-aside g c = c.loop-entry.invariant.aside

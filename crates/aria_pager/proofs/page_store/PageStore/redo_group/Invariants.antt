@@ -5,6 +5,7 @@ use Rattle.aria_record.specs.Logged.{Logged}
 use Rattle.aria_recovery.specs.Midway.{midway}
 use Rattle.aria_pager.specs.PageStore.{spot_of}
 use Rattle.aria_pager.specs.Steps.{SameWork}
+use Rattle.aria_pager.specs.Turns.{KeepsAside}
 use Rattle.aria_pager.specs.Redone.{IsAtGroup, IsRedoing, Redoes}
 use Rattle.aria_pager.proofs.page_store.PageStore.redo_group.Given as goal
 
@@ -14,6 +15,7 @@ invariant-loop-entry g l = record {
       → IsRedoing l.fn.self (g.H.Host.state l.fn.host) (λ k. length before) base start groups forced
       → Redoes l.fn.self l.self (g.H.Host.state l.fn.host) (g.H.Host.state l.host) (midway groups (length before) (take l.entry-index l.group) (spot_of l.fn.self)) base start groups forced true;
   same : SameWork l.fn.self l.self;
+  aside : IsTrue g.H.Host.tells → KeepsAside (g.H.Host.state l.fn.host).folder (g.H.Host.state l.host).folder;
   disk : (g.H.Host.state l.host).disk_faults ≡ (g.H.Host.state l.fn.host).disk_faults;
   tell : (g.H.Host.state l.host).tell_faults ≡ (g.H.Host.state l.fn.host).tell_faults;
 }

@@ -9,8 +9,8 @@ use Rattle.aria_recovery.specs.Tables.{life_of}
 use Rattle.aria_recovery.specs.Midway.{raised, midway, is_counted}
 use Rattle.aria_pager.specs.PageStore.{spot_of}
 use Rattle.aria_pager.specs.Steps.{OfHold}
-use Rattle.aria_pager.specs.Redone.{OfEdited}
-use Rattle.aria_pager.proofs.Again.{redoes_aside, redoes_alike, without_slot, not_counted, entry_page, entry_passed, if_err_more, of_edited}
+use Rattle.aria_pager.specs.Redone.{OfEdited, is_log_damage}
+use Rattle.aria_pager.proofs.Again.{redoes_aside, redoes_alike, without_slot, not_counted, entry_page, entry_passed, if_err_both, edited_before, of_edited}
 use Rattle.aria_pager.proofs.page_store.PageStore.redo_on.Goals as goal
 
 pub returns-in_default-clause-redoes : goal.returns-in_default-clause-redoes
@@ -50,6 +50,8 @@ returns-clause-edited g c = λ told base start groups forced before after place 
     let counts : is_counted (told_of (life_of name groups).last) (lsn_at_place place) ≡ true =
     ap (λ (t : Told). is_counted t (lsn_at_place place)) (sym (c.told.ensures at.knows.checkpoint groups at.knows.has)) ∙ ap (is_counted c.told.result) (sym at.lsn_is) ∙ sym c.is_counted.ensures ∙ c.if-not-is_counted.false in
     let page = entry_page store s base start groups before after (record { at = place; group = c.args.group.now }) forced here passed rest kind name edits is at.whole group some c.requires.low c.in-Some.ensures.known counts in
-    if_err_more c.redo_page.result (OfHold g.H.Host.tells c.redo_page.new.self (key_of here) s t) (OfEdited c.redo_page.new.self groups t.folder)
-    (of_edited g.H.Host.tells store c.redo_page.new.self (midway groups (length before) passed (spot_of store)) groups before after (record { at = place; group = c.args.group.now }) (key_of here) _ s t told page c.redo_page.ensures.same.slots)
-    c.redo_page.ensures.cause.only
+    let n = c.redo_page.new.self in
+    if_err_both c.redo_page.result (OfHold g.H.Host.tells n (key_of here) s t) (λ fault. is_log_damage fault ≡ true → n.log ≡ store.log) (OfEdited store.log groups t.folder)
+    (λ fault held late. edited_before store.log n.log groups t.folder fault
+    (of_edited g.H.Host.tells store n (midway groups (length before) passed (spot_of store)) groups before after (record { at = place; group = c.args.group.now }) (key_of here) _ s t told page c.redo_page.ensures.same.slots fault held) late)
+    c.redo_page.ensures.cause.only (c.redo_page.ensures.late told is.idle)

@@ -72,5 +72,5 @@ returns-in_err-redo_group-in-Group-clause-edited g c = λ told before more base 
     let now = group_now c.args.self.now c.args.self.now (g.H.Host.state c.args.host.now) (g.H.Host.state c.next.new.host) (g.H.Host.state c.next.new.host) c.args.analysis.now c.args.from before base start groups forced c.in-Group.at c.in-Group.group c.in-Group.after
     (λ f b left. g.met.H.Host.only_now c.args.host.now f b told left) (g.met.H.Host.reads_now c.next.new.host told) (c.in_ok-step.ensures.same told) more is
     (subst (IsStep (place c.args.self.now.log) more) c.in-Group.is (c.in_ok-step.ensures.step told is.here before more is.stands is.from_is)) in
-    if_err_at c.from_residual-in_err-redo_group-in-Group.result (OfEdited c.redo_group.new.self groups (g.H.Host.state c.redo_group.new.host).folder) e.0 c.in_err-redo_group-in-Group.field-0.0 e.1 e.2
+    if_err_at c.from_residual-in_err-redo_group-in-Group.result (OfEdited c.args.self.now.log groups (g.H.Host.state c.redo_group.new.host).folder) e.0 c.in_err-redo_group-in-Group.field-0.0 e.1 e.2
     (c.in_err-redo_group-in-Group.ensures.edited told base start groups now.3 now.0 now.1 now.2 (subst (λ (rs : List Record). IsAtGroup c.args.analysis.now c.in-Group.at rs groups now.0 now.1 now.2) (sym c.as_slice.ensures) now.4) now.5)

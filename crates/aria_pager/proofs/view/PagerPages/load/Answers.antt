@@ -4,7 +4,7 @@ use Rattle.aria_cache.specs.PageState.{table_file}
 use Rattle.aria_pager.specs.PageStore.{name_at}
 use Rattle.aria_pager.specs.Laws.{stands_stays}
 use Rattle.aria_pager.proofs.Lending.{page_low}
-use Rattle.aria_pager.proofs.Looked.{look_cause}
+use Rattle.aria_pager.proofs.Glanced.{look_cause}
 use Rattle.aria_pager.proofs.Paging.{loads, page_cause}
 use Rattle.aria_pager.proofs.view.PagerPages.load.Goals as goal
 

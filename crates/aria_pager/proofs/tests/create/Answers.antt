@@ -1,0 +1,15 @@
+use Rattle.std.proofs.Common.{refl, ◌∙◌}
+use Rattle.aria_pager.proofs.Usable.{rests_standing}
+use Rattle.aria_pager.proofs.tests.create.Goals as goal
+
+pub returns-in-Ok : goal.returns-in-Ok
+returns-in-Ok c =
+    let on = c.requires.stands in
+    let turned = (c.create_table-answer.ensures.moves refl on.0 on.1 on.2 on.3 on.4).turned in
+    rests_standing _ _ on.0 on.1 _ turned.forced' turned.standing c.create_table-answer.ensures.tidy (c.create_table-answer.ensures.same.in_group ∙ c.requires.idle)
+
+pub returns : goal.returns
+returns c =
+    let on = c.requires.stands in
+    let turned = (c.create_table-answer.ensures.moves refl on.0 on.1 on.2 on.3 on.4).turned in
+    rests_standing _ _ on.0 on.1 _ turned.forced' turned.standing c.create_table-answer.ensures.tidy (c.create_table-answer.ensures.same.in_group ∙ c.requires.idle)
