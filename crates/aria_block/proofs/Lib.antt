@@ -1,0 +1,20 @@
+pub mod Tiling
+pub mod Putting
+pub mod Windows
+pub mod Items
+pub mod PutAt
+pub mod Removed
+pub mod OnePage
+pub mod Spots
+pub mod Placed
+pub mod Kept
+pub mod Causing
+pub mod Writing
+pub mod Blobs
+pub mod Looking
+pub mod Adding
+pub mod Promising
+pub mod Grown
+pub mod Cutting
+pub mod Taken
+mod Worked

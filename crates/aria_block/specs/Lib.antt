@@ -1,0 +1,12 @@
+pub mod Pieces
+pub mod Rows
+pub mod PartPage
+pub mod DataFile
+pub mod Spot
+pub mod Puts
+pub mod Cut
+pub mod Blob
+pub mod Growing
+pub mod Finding
+pub mod Causes
+pub mod HoldsRows

@@ -1,0 +1,12 @@
+pub mod Tree
+pub mod Path
+pub mod Step
+pub mod Climb
+pub mod Held
+pub mod Place
+pub mod Owned
+pub mod Rest
+pub mod Standing
+pub mod Reading
+pub mod Way
+pub mod Cursor

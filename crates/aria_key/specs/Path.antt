@@ -1,0 +1,8 @@
+-- The way from a root down.
+use Rattle.std.specs.Prelude.{List, take}
+use Rattle.aria_key.specs.declared.path.Passed.{Passed}
+use Rattle.aria_key.specs.declared.path.Path.{Path}
+
+-- the nodes that were passed
+abbrev pub passed : Path → List Passed
+passed p = take p.len p.steps

@@ -1,0 +1,44 @@
+//! The way from a root down to a leaf.
+
+ghost use Rattle.std.specs.Prelude.{◌≡◌, ◌+◌, ◌<◌, [], ◌∷◌, ◌++◌};
+ghost use Rattle.aria_key.specs.Path.{passed};
+
+/// The most levels of a tree that are read.
+pub const MAX_LEVELS: usize = 16;
+
+/// A node that was passed on the way down, and which of its children came next, from 0 on.
+#[derive(Clone, Copy)]
+pub struct Passed {
+    pub page: u32,
+    pub at: usize,
+}
+
+/// The nodes that were passed, from the root on.
+#[derive(Clone, Copy)]
+pub struct Path {
+    steps: [Passed; MAX_LEVELS],
+    len: usize,
+}
+
+impl Path {
+    // The way to the root.
+    pub(crate) fn new() -> Path
+        ensures passed { passed result ≡ [] }
+        ensures len { result.len ≡ 0 }
+    {
+        Path {
+            steps: [Passed { page: 0, at: 0 }; MAX_LEVELS],
+            len: 0,
+        }
+    }
+
+    // The way goes on through this child of a node.
+    pub(crate) fn push(&mut self, step: Passed)
+        requires { self.old.len < MAX_LEVELS }
+        ensures passed { passed self.new ≡ passed self.old ++ step ∷ [] }
+        ensures len { self.new.len ≡ self.old.len + 1 }
+    {
+        self.steps[self.len] = step;
+        self.len += 1;
+    }
+}
