@@ -22,15 +22,14 @@ use Rattle.aria_log.specs.declared.log.Log.{Log as LogValue}
 use Rattle.aria_log.specs.Groups.{placed, groups_bytes, groups_from}
 use Rattle.aria_log.specs.Log.{IsLog, HoldsAll, LogMoments, place}
 use Rattle.aria_log.specs.Pieces.{log_files}
-use Rattle.aria_log.proofs.Images.{length-placed, no_bytes}
-use Rattle.aria_recovery.specs.Redo.{Content, number_at, seen}
+use Rattle.aria_log.proofs.Images.{no_bytes}
+use Rattle.aria_recovery.specs.Redo.{Content, seen}
 use Rattle.aria_recovery.specs.Tables.{Agrees, Maker, IsCurrent, life_of, file, is_from}
 use Rattle.aria_recovery.specs.Noted.{told_of, told_at, life_at, is_of}
 use Rattle.aria_recovery.specs.Analysed.{Has}
 use Rattle.aria_recovery.specs.declared.analysis.Analysis.{Analysis}
 use Rattle.aria_recovery.specs.declared.life.Life.{Life as LifeValue}
 use Rattle.aria_recovery.proofs.Agreeing.{agrees_on}
-use Rattle.aria_recovery.specs.Images.{Raises}
 use Rattle.aria_recovery.proofs.Stepping.{tables_same}
 use Rattle.aria_pager.specs.Settled.{IsFound, IsSettled}
 use Rattle.aria_pager.specs.Entered.{AreListed}

@@ -1,5 +1,5 @@
 -- A folder is looked at: what its steps come to.
-use Rattle.std.proofs.Common.{◌≡◌, ◌∙◌, ◌⊎◌, inl, inr, Result, Ok, ℕ, ◌*◌, Bool, true, List, ap, sym, refl, subst}
+use Rattle.std.proofs.Common.{◌≡◌, ◌∙◌, ◌⊎◌, inl, inr, Result, Ok, ℕ, Bool, true, List, ap, sym, refl, subst}
 use Rattle.std.specs.Prelude.{IsTrue}
 use Rattle.aria_page.specs.declared.lsn.Lsn.{Lsn}
 use Rattle.aria_host.specs.declared.fault.Fault.{Fault}
@@ -15,10 +15,9 @@ use Rattle.aria_control.specs.declared.found.Found.TheVariants.{Fresh, Kept}
 use Rattle.aria_control.specs.Found.{Answers, Fails}
 use Rattle.aria_record.specs.Logged.{Logged, lsn_at_place}
 use Rattle.aria_log.specs.declared.log.Log.{Log as LogValue}
-use Rattle.aria_log.specs.Log.{IsOpened, place}
+use Rattle.aria_log.specs.Log.{IsOpened}
 use Rattle.aria_recovery.specs.Redo.{number_at}
 use Rattle.aria_recovery.specs.Images.{page_of}
-use Rattle.aria_recovery.specs.Frames.{Spot}
 use Rattle.aria_pager.specs.PageStore.{late_seen}
 use Rattle.aria_pager.specs.Steps.{damaged_at}
 use Rattle.aria_pager.specs.declared.find.Found.{Found}

@@ -1,5 +1,5 @@
 -- A folder is opened: what its steps come to.
-use Rattle.std.proofs.Common.{◌≡◌, ◌∙◌, ◌≤◌, ◌⊎◌, inl, inr, ⊎_elim, ℕ, ◌+◌, ◌*◌, ◌/◌, Bool, false, List, [], ◌++◌, take, length, ap, sym, refl, subst, arith, true≢false}
+use Rattle.std.proofs.Common.{◌≡◌, ◌∙◌, ◌≤◌, ◌⊎◌, inl, inr, ⊎_elim, ℕ, ◌*◌, Bool, false, List, [], ◌++◌, take, length, ap, sym, refl, subst, arith, true≢false}
 use Rattle.std.specs.Prelude.{IsTrue, is_some}
 use Rattle.std.specs.List.{list_any}
 use Rattle.std.proofs.Math.Seq.{take-length, take-nil}
@@ -20,7 +20,7 @@ use Rattle.aria_host.proofs.Moments.{OnlyNow, started, goes_on, joined, weakened
 use Rattle.aria_control.specs.Found.{control_file, is_control}
 use Rattle.aria_record.specs.Logged.{Logged}
 use Rattle.aria_recovery.specs.Redo.{Content, seen}
-use Rattle.aria_recovery.specs.Tables.{Table, Agrees, file, tables_of}
+use Rattle.aria_recovery.specs.Tables.{Agrees, file, tables_of}
 use Rattle.aria_recovery.specs.Frames.{Progress, all_of}
 use Rattle.aria_recovery.specs.Moves.{AtFront}
 use Rattle.aria_recovery.proofs.Stepping.{tables_same}

@@ -1,5 +1,5 @@
 -- Where redo changes nothing, by the tables' files and by the last edits of their pages.
-use Rattle.std.proofs.Common.{◌≡◌, ◌∙◌, ◌&&◌, inl, inr, ℕ, suc, ◌≤◌, Bool, true, false, cond, not, nat_lt, nat_le, List, [], ◌∷◌, ap, sym, refl, subst, arith, Option, None, Some, Err}
+use Rattle.std.proofs.Common.{◌≡◌, ◌∙◌, ◌&&◌, inl, inr, ℕ, suc, ◌≤◌, Bool, true, false, cond, not, nat_lt, List, [], ◌∷◌, ap, sym, refl, subst, arith, Option, None, Some, Err}
 use Rattle.std.specs.Prelude.{IsTrue, slice_get}
 use Rattle.std.specs.List.{list_all}
 use Rattle.std.specs.Map.{lookup}
@@ -16,21 +16,19 @@ use Rattle.aria_page.specs.Lsn.{lsn_number}
 use Rattle.aria_page.specs.declared.lsn.Lsn.{Lsn}
 use Rattle.aria_page.specs.Page.{IsSound, page_lsn, page_body}
 use Rattle.aria_page.specs.declared.place.Part.{Part}
-use Rattle.aria_host.specs.Calls.{extent_of}
 use Rattle.aria_host.specs.declared.fault.Fault.{Fault}
 use Rattle.aria_host.specs.declared.fault.Fault.TheVariants.{PageDamaged}
 use Rattle.aria_host.specs.declared.file_name.FileName.{FileName}
-use Rattle.aria_host.specs.declared.host.Extent.{Extent}
 use Rattle.aria_host.specs.Folder.{Folder}
 use Rattle.aria_host.specs.Seen.{page_or_zero}
 use Rattle.aria_host.specs.State.{State}
 use Rattle.aria_record.specs.Logged.{Logged, lsn_at_place}
 use Rattle.aria_recovery.specs.Redo.{Seen, Rises, number_at, is_before, reach, seen}
-use Rattle.aria_recovery.specs.Tables.{life_of, file, is_from}
+use Rattle.aria_recovery.specs.Tables.{life_of, file}
 use Rattle.aria_recovery.specs.Frames.{Spot}
 use Rattle.aria_recovery.specs.Images.{page_of}
 use Rattle.aria_recovery.specs.Noted.{last_edit}
-use Rattle.aria_recovery.proofs.Comparing.{lt_true, lt_false, le_true, le_false}
+use Rattle.aria_recovery.proofs.Comparing.{lt_true, lt_false, le_true}
 use Rattle.aria_recovery.proofs.Editing.{IsFresh, fresh_still, still_fresh, found_reach}
 use Rattle.aria_recovery.proofs.Redoing.{IsFrom}
 use Rattle.aria_recovery.proofs.Seeing.{seen_sound}
@@ -146,24 +144,3 @@ module _ {T : Type 0} (tells : Bool) (end : Lsn) (among : Spot → Bool) (s t : 
   -- it is ahead of the log
   pub ahead_page : (sp : Spot) (fault : Fault) → among sp ≡ true → fault ≡ damaged_at end → (IsTrue tells → late_seen (lsn_number end) (page_of s.folder sp.name sp.part sp.page) ≡ true) → HasPageCause {T = T} tells end among s t (Err fault)
   ahead_page sp fault on is late = subst (λ (f : Fault). HasPageCause {T = T} tells end among s t (Err f)) (sym is) (record { only = (sp, on, refl, late); counted = λ e. absurd (cc); calm = tt; later = omega (arith, disk); tell = tell })
-
--- ---- the first page of a file
-
-not_lt : (a b : ℕ) → not (nat_lt a b) ≡ nat_le b a
-not_lt a b = elim (cases_lt a b) [
-  | inl low ↦ ap not (lt_true a b low) ∙ sym (le_false b a low)
-  | inr high ↦ ap not (lt_false a b high) ∙ sym (le_true b a high)
-]
-
-pub from_page : (at lsn : Lsn) (content : Option (List (List ℕ))) (e : Extent) (page : List ℕ) → Some e ≡ extent_of content → (e.pages ≡ 0 → ⊥) → page ≡ page_or_zero 0 content → lsn ≡ page_lsn page → not (nat_lt (lsn_number lsn) (lsn_number at)) ≡ is_from at content
-from_page at lsn None e page found some is lsn_is = absurd (cc)
-from_page at lsn (Some []) e page found some is lsn_is = absurd (some (pages_in e found))
-  where
-    pages_of : Option Extent → ℕ
-    pages_of None = 0
-    pages_of (Some x) = x.pages
-
-    pages_in : (e : Extent) → Some e ≡ extent_of (Some []) → e.pages ≡ 0
-    pages_in e found = ap pages_of found
-from_page at lsn (Some (p ∷ ps)) e page found some is lsn_is =
-    not_lt (lsn_number lsn) (lsn_number at) ∙ ap (nat_le (lsn_number at)) (ap lsn_number (lsn_is ∙ ap page_lsn is) ∙ sym (page_number_is p))

@@ -1,5 +1,5 @@
 -- A pager rests again after calls.
-use Rattle.std.proofs.Common.{◌≡◌, ◌≤◌, false, List, ℕ, length, arith, Some, None, Result, Ok, Err}
+use Rattle.std.proofs.Common.{◌≡◌, false, List, ℕ, length, arith, Some, Result, Ok, Err}
 use Rattle.std.specs.Prelude.{OnOk, OnErr}
 use Rattle.aria_page.specs.declared.lsn.Lsn.{Lsn}
 use Rattle.aria_host.specs.declared.fault.Fault.{Fault}

@@ -9,7 +9,7 @@ ghost use Rattle.aria_host.specs.Calls.{HasDiskCause, Unchanged};
 ghost use Rattle.aria_host.specs.Folder.{page_count};
 ghost use Rattle.aria_record.specs.Logged.{Logged};
 ghost use Rattle.aria_recovery.specs.Redo.{Rises};
-ghost use Rattle.aria_recovery.specs.Tables.{file, is_from};
+ghost use Rattle.aria_recovery.specs.Tables.{file};
 ghost use Rattle.aria_recovery.specs.Frames.{Spot};
 ghost use Rattle.aria_recovery.specs.Analysed.{Has};
 ghost use Rattle.aria_pager.specs.Settled.{IsFound};
@@ -22,6 +22,7 @@ use crate::evict::bounded;
 use crate::load::{log_damaged, read_or_zero};
 use crate::page_store::PageStore;
 use crate::redo::is_before;
+use crate::settle::is_from;
 use crate::slot::file_of;
 use aria_host::{Fault, FileName, Host};
 use aria_log::Log;
@@ -29,23 +30,6 @@ use aria_page::{Lsn, Name, Part};
 use aria_recovery::{Analysis, Told};
 use std::alloc::Global;
 use std::collections::BTreeMap;
-
-// Whether a file of a table is there, with a first page that isn't older than the table.
-fn is_from<H: Host>(host: &mut H, at: Lsn, name: &Name, part: Part) -> Result<bool, Fault>
-    ensures from { IsTrue H.tells → IfOk result (λ b. b ≡ is_from at ((H.state host.old).folder (file name.now part))) }
-    ensures same { IsTrue H.tells → Unchanged (H.state host.old) (H.state host.new) }
-    ensures cause { HasDiskCause (H.state host.old) (H.state host.new) result }
-{
-    let file = file_of(name, part);
-    let Some(extent) = host.look(&file)? else {
-        return Ok(false);
-    };
-    if extent.pages == 0 {
-        return Ok(false);
-    }
-    let page = read_or_zero(host, &file, extent.pages, 0)?;
-    Ok(!is_before(page.lsn(), at))
-}
 
 // Whether a file of a table isn't there.
 fn is_gone<H: Host>(host: &mut H, name: &Name, part: Part) -> Result<bool, Fault>
@@ -68,7 +52,7 @@ fn is_settled<H: Host>(host: &mut H, told: Told, name: &Name, part: Part) -> Res
     match told {
         Told::Nothing => Ok(true),
         Told::Dropped => is_gone(host, name, part),
-        Told::Made(at) => is_from(host, at, name, part),
+        Told::Made(at) => is_from(host, &file_of(name, part), at),
     }
 }
 

@@ -18,8 +18,8 @@ use crate::slot::file_of;
 use aria_host::{Fault, FileName, Host};
 use aria_page::{Lsn, Name, Page, Part};
 
-// Whether the file is there with a first page that isn't older than this place of the log.
-fn is_from<H: Host>(host: &mut H, file: &FileName, at: Lsn) -> Result<bool, Fault>
+/// Whether the file is there with a first page that isn't older than this place of the log.
+pub(crate) fn is_from<H: Host>(host: &mut H, file: &FileName, at: Lsn) -> Result<bool, Fault>
     requires name { IsFileName file.now }
     ensures is { IsTrue H.tells → IfOk result (λ from. from ≡ is_from at ((H.state host.old).folder file.now)) }
     ensures same { IsTrue H.tells → Unchanged (H.state host.old) (H.state host.new) }

@@ -1,4 +1,3 @@
-use Rattle.aria_host.specs.Moments.{SameBut}
 use Rattle.aria_pager.proofs.Beginnings.{start_keeps, start_files, start_agrees, start_tables}
 use Rattle.aria_pager.proofs.prepare.start_log.Goals as goal
 
