@@ -5,6 +5,11 @@ ghost use Rattle.aria_pager.specs.PageStore.{name_at};
 ghost use Rattle.aria_pager.specs.Usable.{IsUsable};
 
 mod crashes;
+mod faults;
+mod frames;
+mod looking;
+mod reopened;
+mod tables;
 
 use crate::PageStore;
 use aria_cache::PageId;
@@ -71,6 +76,18 @@ fn create(
         Ok(_) => Ok(()),
         Err(fault) => Err(fault),
     }
+}
+
+// Drops the table; a fault of input stands for one that isn't there.
+fn drop_table(store: &mut PageStore, host: &mut MemHost, name: &Name) -> Result<(), Fault>
+    requires { IsUsable store.old (mem_state host.old) }
+    ensures { IsUsable store.new (mem_state host.new) }
+{
+    let _file = FileName::Control;
+    if !store.has_table(name) {
+        return Err(Fault::Input);
+    }
+    store.drop_table(host, name)
 }
 
 // The slot of the table; a fault of input stands for one that isn't there.
@@ -161,6 +178,23 @@ fn force(store: &mut PageStore, host: &mut MemHost) -> Result<(), Fault>
     store.force(host)
 }
 
+// Appends COMMIT.
+fn commit(store: &mut PageStore, host: &mut MemHost) -> Result<(), Fault>
+    requires { IsUsable store.old (mem_state host.old) }
+    ensures { IsUsable store.new (mem_state host.new) }
+{
+    let _file = FileName::Control;
+    store.commit(host)
+}
+
+// Brings all to the disk, and lets the pages go.
+fn close(alloc: Global, store: PageStore, host: &mut MemHost) -> Result<(), Fault>
+    requires { IsUsable store (mem_state host.old) }
+{
+    let _file = FileName::Control;
+    store.close(alloc, host)
+}
+
 // The fate of an unsynced write: kept, torn or lost.
 fn fate_of(letter: u8) -> Fate {
     let mut torn = Page::zero();
@@ -170,6 +204,15 @@ fn fate_of(letter: u8) -> Fate {
         b't' => Fate::Torn(torn),
         _ => Fate::Lost,
     }
+}
+
+// A crash with these fates of the unsynced writes, in their order. The others are lost.
+fn crash(alloc: Global, host: &mut MemHost, fates: &str) -> Result<(), AllocError> {
+    let mut picked = List::new(alloc);
+    for letter in fates.as_bytes() {
+        picked.push(fate_of(*letter))?;
+    }
+    host.crash(&picked)
 }
 
 // A crash in which all unsynced writes have the same fate.

@@ -1,11 +1,11 @@
-ghost use Rattle.std.specs.Prelude.{OnOk};
+ghost use Rattle.std.specs.Prelude.{◌≤◌, OnOk, length};
 ghost use Rattle.aria_host.specs.MemHost.{mem_state};
 ghost use Rattle.aria_pager.specs.Usable.{IsUsable};
 
-use super::{crash_all, create, force, look, open, put, table_name};
+use super::{crash, crash_all, create, force, look, open, put, table_name};
 use crate::PageStore;
 use aria_host::{Fault, FileName, MemHost};
-use aria_page::{List, Lsn, Name};
+use aria_page::{List, Lsn, Name, Page};
 use std::alloc::Global;
 use std::test::Fail;
 
@@ -15,20 +15,22 @@ fn text(nth: u32) -> [u8; 8] {
     [b'#', a, b, c, d, b'#', b'#', b'#']
 }
 
-// Makes the table and appends 200 groups; each writes 8 bytes into another page, from page 1 on. Gives the groups' numbers.
-fn fill(
+// Makes the table and appends so many groups; each writes 8 bytes into another page, from page 1 on. Gives the groups' numbers.
+pub(super) fn fill(
     alloc: Global,
     store: &mut PageStore,
     host: &mut MemHost,
     name: &Name,
+    count: u32,
 ) -> Result<List<Lsn>, Fault>
-    requires { IsUsable store.old (mem_state host.old) }
+    requires usable { IsUsable store.old (mem_state host.old) }
+    requires few { count ≤ 200 }
     ensures { OnOk result (IsUsable store.new (mem_state host.new)) }
 {
     let _file = FileName::Control;
     create(alloc, store, host, name)?;
     let mut numbers = List::new(alloc);
-    for nth in 0..200u32 {
+    for nth in 0..count {
         let lsn = put(alloc, store, host, name, nth + 1, &text(nth))?;
         numbers.push(lsn)?;
     }
@@ -36,7 +38,7 @@ fn fill(
 }
 
 // How many pages from page 1 on have the bytes and the number of their group. None behind them has one of them.
-fn front(
+pub(super) fn front(
     alloc: Global,
     store: &mut PageStore,
     host: &mut MemHost,
@@ -70,7 +72,7 @@ fn survive(alloc: Global, forces: bool, letter: u8) -> Result<Option<u32>, Fault
     let name = table_name()?;
     let mut host = MemHost::new(alloc);
     let mut store = open(alloc, &mut host)?;
-    let numbers = fill(alloc, &mut store, &mut host, &name)?;
+    let numbers = fill(alloc, &mut store, &mut host, &name, 200)?;
     if forces {
         force(&mut store, &mut host)?;
     }
@@ -97,5 +99,58 @@ fn a_front_of_the_others_is_found(rt: HostRuntime) -> Result<(), Fail> {
     let alloc = rt.alloc();
     assert_eq!(rt; survive(alloc, false, b'k')?, Some(199));
     assert_eq!(rt; survive(alloc, false, b'l')?, Some(199));
+    Ok(())
+}
+
+// A page whose body begins with a text, and goes on with zeros.
+fn titled(text: &[u8; 4]) -> Page {
+    let mut page = Page::zero();
+    page.put(11, text);
+    page
+}
+
+// The first 8100 bytes of a body.
+fn most(body: &[u8]) -> &[u8]
+    ensures { length result.now ≤ length body.now }
+{
+    match body.get(..8100) {
+        Some(front) => front,
+        None => body,
+    }
+}
+
+// Which of two groups are found that weren't forced before a crash with these fates.
+fn found_of_two(alloc: Global, fates: &str) -> Result<(bool, bool), Fault> {
+    let _file = FileName::Control;
+    let name = table_name()?;
+    let mut host = MemHost::new(alloc);
+    let mut store = open(alloc, &mut host)?;
+    create(alloc, &mut store, &mut host, &name)?;
+    let one = titled(b"one ");
+    let two = titled(b"two ");
+    put(alloc, &mut store, &mut host, &name, 1, most(one.body()))?;
+    put(alloc, &mut store, &mut host, &name, 2, two.body())?;
+    crash(alloc, &mut host, fates)?;
+    let mut store = open(alloc, &mut host)?;
+    let first = look(alloc, &mut store, &mut host, &name, 1, b"one ")?;
+    let second = look(alloc, &mut store, &mut host, &name, 2, b"two ")?;
+    Ok((
+        matches!(first, Some((true, _))),
+        matches!(second, Some((true, _))),
+    ))
+}
+
+// The groups have 8152 and 8233 bytes, and a page of the log takes 8176 of them. So two pages are written, of which the first
+// has the first group whole, and the last 33 bytes of the second group never reach the disk.
+#[test]
+fn an_incomplete_group_is_not_found(rt: HostRuntime) -> Result<(), Fail> {
+    let _file = FileName::Control;
+    let alloc = rt.alloc();
+    assert_eq!(rt; found_of_two(alloc, "kk")?, (true, false));
+    assert_eq!(rt; found_of_two(alloc, "kl")?, (true, false));
+    assert_eq!(rt; found_of_two(alloc, "kt")?, (true, false));
+    assert_eq!(rt; found_of_two(alloc, "lk")?, (false, false));
+    assert_eq!(rt; found_of_two(alloc, "tk")?, (false, false));
+    assert_eq!(rt; found_of_two(alloc, "ll")?, (false, false));
     Ok(())
 }
