@@ -636,7 +636,7 @@ spent() {
 # rate TITLE COUNT TIME OTHER: how many a second, and how that stands to the other time
 rate() {
     awk -v title="$1" -v count="$2" -v a="$3" -v b="$4" \
-        'BEGIN { printf "%-52s %10.0f %10.2f\n", title, count * 1000000 / a, b / a }'
+        'BEGIN { each = count * 1000000 / a; printf "%-52s %10.*f %10.3f\n", title, (each < 1000 ? 1 : 0), each, b / a }'
 }
 
 beside=$(spent one)
