@@ -2,6 +2,7 @@ pub mod PageState
 pub mod Ending
 pub mod Calls
 pub mod Causes
+pub mod RowFaults
 pub mod SetByte
 pub mod MemFile
 pub mod MemPages

@@ -20,7 +20,7 @@ use std::num::NonZeroUsize;
 pub const MAX_PINS: usize = 48;
 
 /// How many pages are looked at for one that is clean.
-const NEAR: usize = 64;
+const NEAR: usize = 32;
 
 /// A page that is held.
 #[derive(Drop)]

@@ -46,11 +46,13 @@ mod mem_file;
 mod mem_pages;
 mod page_id;
 mod pages;
+mod row_fault;
 
 pub use frames::{Frame, Frames, MAX_PINS};
 pub use mem_pages::MemPages;
 pub use page_id::PageId;
 pub use pages::{OpenGroup, Pages};
+pub use row_fault::RowFault;
 
 #[cfg(test)]
 mod tests;

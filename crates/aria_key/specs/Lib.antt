@@ -5,6 +5,7 @@ pub mod Climb
 pub mod Held
 pub mod Place
 pub mod Owned
+pub mod IndexFile
 pub mod Rest
 pub mod Standing
 pub mod Reading

@@ -12,6 +12,7 @@ mod editing;
 mod fresh;
 mod halves;
 mod halving;
+mod layout;
 mod look;
 mod offer;
 mod path;
