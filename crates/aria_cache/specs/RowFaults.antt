@@ -17,4 +17,4 @@ IsFull count = 2 ^ 30 ≤ count
 -- The call answered that the file with so many pages is full.
 abbrev pub SaysFull : {T : Type 0} → ℕ → Result T RowFault → Type 0
 SaysFull count (Err (why.TableFull pages)) = (pages ≡ count) × IsFull count
-SaysFull count _ = 0 ≡ 1
+SaysFull count _ = ⊥
