@@ -39,3 +39,4 @@ pub mod Founds
 pub mod LogNames
 pub mod Readable
 pub mod Opening
+pub mod Forcing

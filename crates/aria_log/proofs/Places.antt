@@ -81,7 +81,7 @@ runs_rising files n low may ((true, bytes) ∷ ps) le stand =
     (runs_rising files (n + 1) (8176 * n + length bytes) (is_full (true, bytes)) ps (omega (arith, short)) stand.1))
 
 -- the groups of a front
-front_rising : (files : LogFiles) (base : ℕ) (ps : List Piece) → IsBaseOf base ps → Stand (pieces_of files) (base / 8176) true ps → AreRising base (groups_from base ps) (8176 * (base / 8176 + length ps))
+pub front_rising : (files : LogFiles) (base : ℕ) (ps : List Piece) → IsBaseOf base ps → Stand (pieces_of files) (base / 8176) true ps → AreRising base (groups_from base ps) (8176 * (base / 8176 + length ps))
 unfolding groups_from
 front_rising files base [] based stand = omega (arith, based)
 front_rising files base (p ∷ ps) based stand =
@@ -98,7 +98,7 @@ front_rising files base (p ∷ ps) based stand =
     (runs_rising files (n + 1) (8176 * n + length p.1) (is_full p) ps (omega (arith, short)) stand.1))
 
 -- groups that were appended
-placed_rising : (at : ℕ) (groups : List (List Record)) → AreRising at (placed at groups) (at + length (groups_bytes groups))
+pub placed_rising : (at : ℕ) (groups : List (List Record)) → AreRising at (placed at groups) (at + length (groups_bytes groups))
 unfolding groups_bytes
 placed_rising at [] = omega arith
 placed_rising at (group ∷ groups) =

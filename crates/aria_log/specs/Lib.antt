@@ -9,3 +9,4 @@ pub mod Causes
 pub mod Reading
 pub mod Stepping
 pub mod Finding
+pub mod Forced

@@ -8,12 +8,13 @@ ghost use Rattle.aria_record.specs.Spelled.{group_bytes};
 ghost use Rattle.aria_log.specs.Pieces.{Piece};
 ghost use Rattle.aria_record.specs.Logged.{Logged, lsn_at_place};
 ghost use Rattle.aria_log.specs.Log.{place, log_pages, behind, AreFull, IsLog, IsRunning, IsSameEnd, IsWriting, LogKeeps, Synced};
+ghost use Rattle.aria_log.specs.Forced.{TellsForced};
 ghost use Rattle.aria_log.specs.Spelling.{IsSpelled};
 ghost use Rattle.aria_log.specs.Causes.{HasAppendCause};
 
 use crate::log::Log;
 use crate::log_page::{BODY_BYTES, PAGES_END, file_of};
-use crate::place::lsn_of_place;
+use crate::place::{is_before_place, lsn_of_place, means_none};
 use aria_host::{Fault, FileName, Host};
 use aria_page::Lsn;
 
@@ -123,6 +124,18 @@ impl Log {
             return Ok(());
         }
         self.close_run(host)
+    }
+
+    /// Whether the group with this log sequence number is on the disk. Where it means none, it is no group's.
+    pub fn is_forced<H: Host>(&self, host: &H, lsn: Lsn) -> bool
+        ensures tells { IsTrue H.tells → (base : ℕ) (groups : List Logged) (forced : ℕ) → IsLog self.now (H.state host.now) base groups forced → TellsForced lsn groups forced result }
+        ensures low { place self.now ≤ 8176 * (2 ^ 34 - 1) }
+    {
+        let _host = host;
+        if means_none(lsn) {
+            return false;
+        }
+        is_before_place(lsn, self.first * BODY_BYTES as u64)
     }
 
     /// The place behind the log's last group: where the next one begins.

@@ -14,6 +14,7 @@
 //! log.start(&mut host)?;                          // once, before the first group
 //! let lsn = log.append(&mut host, bytes)?;        // the bytes of one group; as often as wanted
 //! log.force(&mut host)?;                          // all groups are on the disk: append and force again
+//! log.is_forced(&host, lsn);                      // whether a group is on the disk, at any time from then on
 //! log.purge(alloc, &mut host, lsn)?;              // removes the files before the place of the oldest group that is needed
 //! ```
 //!

@@ -1,7 +1,7 @@
 //! Places in the log, and their log sequence numbers.
 
-ghost use Rattle.std.specs.Prelude.{◌≡◌, ◌≤◌, ◌<◌, ◌*◌, ◌-◌, ◌/◌, ◌^◌, ℕ, IfSome};
-ghost use Rattle.aria_page.specs.Lsn.{IsLsn};
+ghost use Rattle.std.specs.Prelude.{◌≡◌, ◌≤◌, ◌<◌, ◌*◌, ◌-◌, ◌/◌, ◌^◌, ℕ, nat_lt, IfSome};
+ghost use Rattle.aria_page.specs.Lsn.{IsLsn, lsn_number};
 ghost use Rattle.aria_record.specs.Logged.{lsn_at_place};
 ghost use Rattle.aria_log.specs.Finding.{means_none, place_of, start_of};
 
@@ -29,6 +29,14 @@ pub(crate) fn place_of_lsn(lsn: Lsn) -> u64
     let number = u64::from(lsn.file) * FILE_PAGES + u64::from(lsn.offset / PAGE_BYTES as u32);
     let byte = (lsn.offset % PAGE_BYTES as u32).saturating_sub(BODY_AT as u32);
     number * BODY_BYTES as u64 + u64::from(byte)
+}
+
+/// Whether the log sequence number stands before that of a place.
+pub(crate) fn is_before_place(lsn: Lsn, place: u64) -> bool
+    requires { place ≤ 8176 * (2 ^ 34 - 1) }
+    ensures { result ≡ nat_lt (lsn_number lsn) (lsn_number (lsn_at_place place)) }
+{
+    lsn.is_before(lsn_of_place(place))
 }
 
 /// The log sequence number of the log's first byte.

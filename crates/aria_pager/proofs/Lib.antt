@@ -64,3 +64,4 @@ pub mod Inspecting
 pub mod Beginnings
 pub mod Usable
 pub mod SettlingNames
+pub mod Evicting

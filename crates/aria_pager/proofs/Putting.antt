@@ -1,4 +1,4 @@
--- A held page is written to its file, while all groups are on the disk.
+-- A held page is written to its file, while its own last group is on the disk.
 use Rattle.std.proofs.Common.{rules, ◌≡◌, ◌∙◌, inl, inr, ℕ, ◌+◌, ◌/◌, ◌%◌, ◌^◌, ◌<◌, ◌≤◌, max, Bool, true, false, cond, nat_eq, List, length, take, ap, sym, refl, subst, arith, Option, None, Some}
 use Rattle.std.specs.Prelude.{IsTrue, IsSome, is_some, slice_get}
 use Rattle.std.specs.Option.{option_map, option_map_or}
@@ -27,6 +27,7 @@ use Rattle.aria_cache.specs.Key.{key_of}
 use Rattle.aria_recovery.specs.Redo.{seen, same_part, touches, reach, reach_on}
 use Rattle.aria_recovery.specs.Tables.{life_of, file, Table, tables_of}
 use Rattle.aria_recovery.specs.Images.{AreImages, IsNeutral, IsBelow, SameNames}
+use Rattle.aria_recovery.specs.Forced.{IsForced}
 use Rattle.aria_recovery.specs.Frames.{Spot, as_seen, dirty_of, is_dirty, FramesOver, Progress}
 use Rattle.aria_recovery.specs.Moves.{Moves}
 use Rattle.aria_recovery.proofs.Stepping.{not_torn, apart_part}
@@ -39,7 +40,7 @@ use Rattle.aria_pager.specs.declared.slot.FilePages.{FilePages}
 use Rattle.aria_pager.specs.PageStore.{name_at, stands_for, opened, set_at, part_of_key, spot_of, is_known}
 use Rattle.aria_pager.specs.Pager.{HasFront, HaveFronts, HoldsPages, AreInside, OnDisk, IsSlot, AreSlots, IsPagerAt, pages_in, with_pages, next_number, known}
 use Rattle.aria_pager.specs.Steps.{SameWork, StepsAt}
-use Rattle.aria_pager.proofs.Fronting.{fronts, front_same, log_of_stays, named_same, moves_call}
+use Rattle.aria_pager.proofs.Fronting.{fronts, log_within, front_same, log_of_stays, named_same, moves_call}
 use Rattle.aria_pager.proofs.Slots.{Here, spot_here, stands, slot_open, slot_one, keys_apart, file_name}
 use Rattle.aria_pager.proofs.Setting.{set_here, set_other, set_names, set_sizes, pages_sized, set_any, pages_named, pages_stand}
 
@@ -126,18 +127,19 @@ slot_put store store' d c groups n slot Rows pages writer knows is tables disk o
     files Keys = disk_same store store' d c groups slot.name Keys slot.keys writer (others Keys refl) (is.files Keys)
     files Rows = disk
 
-module _ (store : PageStore) (s t : State) (redone : Progress) (base : ℕ) (start : Folder) (groups : List Logged) (key : ℕ) (h : Held) (spot : Spot) (page : List ℕ) (done : Bool) where
+module _ (store : PageStore) (s t : State) (redone : Progress) (base : ℕ) (start : Folder) (groups : List Logged) (forced : ℕ) (key : ℕ) (h : Held) (spot : Spot) (page : List ℕ) (done : Bool) where
   -- the page of the key is written as it is held
   pub record Puts : Type 0 where
     pub only : OnlyNow s
     pub before : s.may_leave s.folder
     pub after : t.may_leave t.folder
-    pub is : IsPagerAt store s redone base start groups (length groups)
+    pub is : IsPagerAt store s redone base start groups forced
     pub there : held store.frames key ≡ Some h
     pub free : is_pinned store.frames key ≡ false
     pub dirty : h.dirty ≡ true
     pub place : spot_of store key ≡ Some spot
     pub sealed : seen page ≡ Some (as_seen h)
+    pub ahead : IsForced h.lsn groups forced
     pub wrote : Writes (file spot.name spot.part) spot.page page s t done
 
   abbrev mine : FileName
@@ -158,25 +160,25 @@ module _ (store : PageStore) (s t : State) (redone : Progress) (base : ℕ) (sta
   within_of p content there = subst (λ (o : Option (List (List ℕ))). spot.page < max (option_map_or length o 0) (reach spot.name spot.part since)) there
       (p.is.inside key spot p.place (ap dirty_of p.there ∙ p.dirty) p.free)
 
-  neutral_of : (p : Puts) → IsNeutral (opened store) groups (length groups) s.folder (MayWrite mine spot.page page)
+  neutral_of : (p : Puts) → IsNeutral (opened store) groups forced s.folder (MayWrite mine spot.page page)
   neutral_of p =
       let on = is_open p in
       let disk = (disk_of p).4 in
-      over_neutral (opened store) (is_known store) (held store.frames) (is_pinned store.frames) (spot_of store) s.folder groups redone (records_of store.writer) (next_number store) (next_number store) key h spot page disk.content
-      p.place p.there p.free p.sealed on ((p.is.images s.folder p.before).current spot.name on) disk.there (within_of p disk.content disk.there) p.is.pages
+      over_neutral (opened store) (is_known store) (held store.frames) (is_pinned store.frames) (spot_of store) s.folder groups forced redone (records_of store.writer) (next_number store) (next_number store) key h spot page disk.content
+      p.place p.there p.free p.sealed on ((p.is.images s.folder p.before).current spot.name on) disk.there (within_of p disk.content disk.there) (p.is.settled spot.name) p.ahead p.is.pages
 
-  pub put_moves : Puts → Moves (HasFront base) (opened store) s t groups groups (length groups) (length groups)
-  put_moves p = moves_call (opened store) s t base groups (length groups) (MayWrite mine spot.page page) (omega arith) p.only p.after p.is.images
-      (fronts store.started store.log s base groups (length groups) p.is.log p.is.control)
+  pub put_moves : Puts → Moves (HasFront base) (opened store) s t groups groups forced forced
+  put_moves p = moves_call (opened store) s t base groups forced (MayWrite mine spot.page page) (log_within store.started store.log s base groups forced p.is.log) p.only p.after p.is.images
+      (fronts store.started store.log s base groups forced p.is.log p.is.control)
       (λ d c left step. neutral_of p d c (p.is.images d left) step) (λ d c left step. write_keeps spot.name spot.part spot.page page d c step) p.wrote.images p.wrote.tells
 
-  put_fronts : Puts → HaveFronts base t groups (length groups)
+  put_fronts : Puts → HaveFronts base t groups forced
   put_fronts p c left = let to = p.wrote.images c left in let same = write_keeps spot.name spot.part spot.page page to.0 c to.2 in
-      front_same base groups (length groups) to.0 c same.0 same.1 (fronts store.started store.log s base groups (length groups) p.is.log p.is.control to.0 to.1)
+      front_same base groups forced to.0 c same.0 same.1 (fronts store.started store.log s base groups forced p.is.log p.is.control to.0 to.1)
 
   -- it failed
-  pub put_failed : Puts → done ≡ false → StepsAt store store s t redone base start groups (length groups) done
-  put_failed p off = record { forced' = length groups; moves = put_moves p; fronts = put_fronts p; pager = λ on. absurd (let e : true ≡ false = sym on ∙ off in (cc)) }
+  pub put_failed : Puts → done ≡ false → StepsAt store store s t redone base start groups forced done
+  put_failed p off = record { forced' = forced; moves = put_moves p; fronts = put_fronts p; pager = λ on. absurd (let e : true ≡ false = sym on ∙ off in (cc)) }
 
   abbrev pub new_pages : Slot → FilePages
   new_pages slot = record { written = max (pages_in slot spot.part).written (spot.page + 1); pages = (pages_in slot spot.part).pages }
@@ -261,11 +263,11 @@ module _ (store : PageStore) (s t : State) (redone : Progress) (base : ℕ) (sta
         let more : page_count (file sp.name sp.part) s.folder ≤ page_count (file sp.name sp.part) t.folder = subst (λ (f : Folder). page_count (file sp.name sp.part) s.folder ≤ page_count (file sp.name sp.part) f) (sym t_is) (count_put (file sp.name sp.part) mine spot.page page s.folder) in
         omega (arith, low, more)
 
-    moved : Moves (HasFront base) (opened store) s t groups groups (length groups) (length groups)
+    moved : Moves (HasFront base) (opened store) s t groups groups forced forced
     moved = put_moves p
 
     tables : (name : List ℕ) → tables_of t.folder groups name ≡ tables_of s.folder groups name
-    tables name = tables_stay store s t base groups (length groups) (length groups) moved name
+    tables name = tables_stay store s t base groups forced forced moved name
 
     slot_is : slot.used ≡ true
     slot_is = let at = disk_of p in ap (λ (o : Slot). o.used) (some_slot slot at.0 (sym here ∙ at.1)) ∙ at.2
@@ -331,10 +333,10 @@ module _ (store : PageStore) (s t : State) (redone : Progress) (base : ℕ) (sta
             subst (λ (k : ℕ). IsSlot now t.folder groups k other) e (subst (IsSlot now t.folder groups (key / 2 ^ 32)) o slot_here)
         by false off = slot_there m other off (sym (set_other store.slots (key / 2 ^ 32) m (new_slot slot) off) ∙ at) used
 
-    pager : IsPagerAt now t redone base start groups (length groups)
+    pager : IsPagerAt now t redone base start groups forced
     pager = record {
-      log = log_of_stays store.started store.log s t base groups (length groups) leaves p.is.log;
-      images = subst (λ (o : List ℕ → Bool). AreImages o t groups (length groups)) (sym opens) moved.images;
+      log = log_of_stays store.started store.log s t base groups forced leaves p.is.log;
+      images = subst (λ (o : List ℕ → Bool). AreImages o t groups forced) (sym opens) moved.images;
       names = names;
       control = λ c left. let to = p.wrote.images c left in named_same base to.0 c (write_keeps spot.name spot.part spot.page page to.0 c to.2).1 (p.is.control to.0 to.1);
       raises = λ c left. let to = p.wrote.images c left in raises_on (next_number store) start to.0 c (p.is.raises to.0 to.1) (raises_write (next_number store) spot.name spot.part spot.page page to.0 c below to.2);
@@ -356,8 +358,8 @@ module _ (store : PageStore) (s t : State) (redone : Progress) (base : ℕ) (sta
     }
 
     -- A PAGE WAS WRITTEN
-    pub put_done : StepsAt store now s t redone base start groups (length groups) done
-    put_done = record { forced' = length groups; moves = moved; fronts = put_fronts p; pager = λ done. pager }
+    pub put_done : StepsAt store now s t redone base start groups forced done
+    put_done = record { forced' = forced; moves = moved; fronts = put_fronts p; pager = λ done. pager }
 
 -- the same with other slots and frames
 abbrev pub with_slots : PageStore → List Slot → Frames → PageStore

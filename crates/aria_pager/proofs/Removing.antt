@@ -1,11 +1,9 @@
 -- A left-over of a name that has no table is removed.
-use Rattle.std.proofs.Common.{rules, ◌≡◌, ◌∙◌, inl, ℕ, zero, suc, ◌/◌, ◌^◌, ◌<◌, ◌≤◌, max, Bool, true, false, List, [], ◌∷◌, length, take, drop, ap, sym, refl, subst, arith, Option, None, Some}
+use Rattle.std.proofs.Common.{rules, ◌≡◌, ◌∙◌, inl, ℕ, ◌/◌, ◌^◌, ◌<◌, ◌≤◌, max, Bool, true, false, List, [], ◌∷◌, length, take, drop, ap, sym, refl, subst, arith, Option, None, Some}
 use Rattle.std.specs.Prelude.{IsTrue, IsSome, is_some, All}
 use Rattle.std.specs.Option.{option_map_or}
-use Rattle.std.specs.List.{AllByRecursion}
 use Rattle.std.specs.Cmp.Lexicographic.{bytes_decides}
 use Rattle.std.proofs.lemmas.List.{take-append-drop}
-use Rattle.std.proofs.lemmas.List.Elements.{All-drop, All-head, All-tail}
 use Rattle.aria_page.specs.Page.{zero_page}
 use Rattle.aria_page.specs.declared.place.Part.{Part}
 use Rattle.aria_page.specs.declared.place.Part.TheVariants.{Keys, Rows}
@@ -29,7 +27,7 @@ use Rattle.aria_recovery.specs.Tables.{told_by, life_of, file, Table, tables_of,
 use Rattle.aria_recovery.specs.Images.{IsImage, IsBelow, Raises, SameNames}
 use Rattle.aria_recovery.specs.Frames.{Spot, raw_at, redone_at, edits_of, PageOn}
 use Rattle.aria_recovery.specs.Moves.{Moves}
-use Rattle.aria_recovery.proofs.Fronts.{none_before}
+use Rattle.aria_recovery.proofs.Fronts.{none_before, all_later, each_of}
 use Rattle.aria_recovery.proofs.Imaging.{removed_step}
 use Rattle.aria_recovery.proofs.Naming.{names_make}
 use Rattle.aria_recovery.proofs.Raising.{raises_on, raises_make}
@@ -46,20 +44,10 @@ use Rattle.aria_pager.proofs.Slots.{stands, closed_name}
 
 -- ---- a name without a table
 
-quiet_later : (P : Logged → Type 0) (forced m : ℕ) (gs : List Logged) → forced ≤ m → All P (drop forced gs) → All P (drop m gs)
-quiet_later P zero m gs le all = All-drop P m gs all
-quiet_later P (suc f) zero gs le all = absurd (let e : suc f ≤ 0 = le in omega (arith, e))
-quiet_later P (suc f) (suc m) [] le all = all
-quiet_later P (suc f) (suc m) (g ∷ gs) le all = quiet_later P f m gs (let e : suc f ≤ suc m = le in omega (arith, e)) all
-
-each_of : (P : Logged → Type 0) (gs : List Logged) → All P gs → AllByRecursion P gs
-each_of P [] all = tt
-each_of P (g ∷ gs) all = (All-head P g gs all, each_of P gs (All-tail P g gs all))
-
 -- it has none by any front that has the forced groups
 pub none_by : (folder : Folder) (groups : List Logged) (forced : ℕ) (name : List ℕ) → NoFiles (drop forced groups) → tables_of folder groups name ≡ None → (m : ℕ) → forced ≤ m → m ≤ length groups → tables_of folder (take m groups) name ≡ None
 none_by folder groups forced name settled none m lo hi =
-    none_before name folder (take m groups) (drop m groups) (each_of (λ g. told_by name g ≡ None) (drop m groups) (quiet_later (λ g. told_by name g ≡ None) forced m groups lo (settled name)))
+    none_before name folder (take m groups) (drop m groups) (each_of (λ g. told_by name g ≡ None) (drop m groups) (all_later (λ g. told_by name g ≡ None) forced m groups lo (settled name)))
     (ap (λ (l : List Logged). tables_of folder l name) (take-append-drop m groups) ∙ none)
 
 none_of : (o : Option Table) → is_some o ≡ false → o ≡ None

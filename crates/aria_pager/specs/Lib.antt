@@ -23,3 +23,4 @@ pub mod Found
 pub mod Opening
 pub mod Inspected
 pub mod Usable
+pub mod Evicting

@@ -1,20 +1,23 @@
-//! Pages leave memory: one that was changed is written first, and behind the log.
+//! Pages leave memory: one that was changed is written first, and behind the groups that changed it.
 
-ghost use Rattle.std.specs.Prelude.{◌≡◌, ◌<◌, ◌+◌, ◌^◌, max, ℕ, List as Seq, IsTrue, None, Some, true, false, is_ok, length, slice_get, OnOk};
+ghost use Rattle.std.specs.Prelude.{◌≡◌, ◌<◌, ◌≤◌, ◌+◌, ◌-◌, ◌*◌, ◌^◌, max, ℕ, List as Seq, IsTrue, None, Some, true, false, is_ok, length, slice_get, OnOk};
 ghost use Rattle.aria_host.specs.Calls.{HasDiskCause, HasDiskOrMemoryCause};
 ghost use Rattle.aria_host.specs.Folder.{Folder};
 ghost use Rattle.aria_record.specs.Logged.{Logged};
 ghost use Rattle.aria_cache.specs.Frames.{Held, held, is_pinned, count, room};
+ghost use Rattle.aria_page.specs.Lsn.{lsn_number};
+ghost use Rattle.aria_recovery.specs.Forced.{IsForced};
 ghost use Rattle.aria_recovery.specs.Redo.{seen};
 ghost use Rattle.aria_recovery.specs.Frames.{Progress, as_seen, is_dirty};
 ghost use Rattle.aria_pager.specs.PageStore.{set_at};
 ghost use Rattle.aria_pager.specs.Pager.{IsPagerAt, IsRunningAt, pages_in, with_pages};
 ghost use Rattle.aria_pager.specs.Looks.{KeepsPages};
 ghost use Rattle.aria_pager.specs.Redone.{KeepsLog};
+ghost use Rattle.aria_pager.specs.Evicting.{ForcesFor};
 ghost use Rattle.aria_pager.specs.Steps.{SameWork, StepsAt, ForcesAt};
 ghost use Rattle.aria_pager.specs.Turns.{KeepsAside};
 ghost use Rattle.aria_pager.specs.View.{IsTidy};
-ghost use Rattle.aria_log.specs.Log.{log_pages};
+ghost use Rattle.aria_log.specs.Log.{log_pages, place};
 
 use crate::page_store::PageStore;
 use crate::slot::Slot;
@@ -72,12 +75,33 @@ impl PageStore {
         self.log.force(host)
     }
 
-    // Writes a page as it is held, where all groups are on the disk.
+    // Brings all groups to the disk, where the one with that number isn't there.
+    fn force_for<H: Host>(&mut self, host: &mut H, lsn: Lsn) -> Result<(), Fault>
+        requires pager { IsTrue H.tells → IsRunningAt self.old (H.state host.old) }
+        ensures forces { IsTrue H.tells → (redone : Progress) (base : ℕ) (start : Folder) (groups : Seq Logged) (forced : ℕ) → IsPagerAt self.old (H.state host.old) redone base start groups forced
+            → ForcesFor self.old self.new (H.state host.old) (H.state host.new) redone base start groups forced (lsn_number lsn) (is_ok result) }
+        ensures frames { self.new.frames ≡ self.old.frames }
+        ensures low { place self.old.log ≤ 8176 * (2 ^ 34 - 1) }
+        ensures reach { log_pages self.new.log ≡ log_pages self.old.log }
+        ensures quiet { IsTrue H.tells → self.old.log.used ≡ 0 → OnOk result (KeepsLog self.old self.new (H.state host.old).folder (H.state host.new).folder) }
+        ensures pages { IsTrue H.tells → IsTidy self.old → KeepsPages self.old self.new (H.state host.old).folder (H.state host.new).folder }
+        ensures aside { IsTrue H.tells → KeepsAside (H.state host.old).folder (H.state host.new).folder }
+        ensures same { SameWork self.old self.new }
+        ensures cause { HasDiskCause (H.state host.old) (H.state host.new) result }
+    {
+        let _file = FileName::Control;
+        if self.log.is_forced(host, lsn) {
+            return Ok(());
+        }
+        self.force_all(host)
+    }
+
+    // Writes a page as it is held, where its own last group is on the disk.
     fn put<H: Host>(&mut self, host: &mut H, key: u64, page: &Page) -> Result<(), Fault>
-        requires pager { IsTrue H.tells → (redone : Progress) × (base : ℕ) × (start : Folder) × (groups : Seq Logged) × (h : Held) × IsPagerAt self.old (H.state host.old) redone base start groups (length groups) × (held self.old.frames key ≡ Some h) }
-        ensures steps { IsTrue H.tells → (redone : Progress) (base : ℕ) (start : Folder) (groups : Seq Logged) (h : Held) → IsPagerAt self.old (H.state host.old) redone base start groups (length groups)
-            → held self.old.frames key ≡ Some h → h.dirty ≡ true → is_pinned self.old.frames key ≡ false → seen page.now ≡ Some (as_seen h)
-            → StepsAt self.old self.new (H.state host.old) (H.state host.new) redone base start groups (length groups) (is_ok result) }
+        requires pager { IsTrue H.tells → (redone : Progress) × (base : ℕ) × (start : Folder) × (groups : Seq Logged) × (forced : ℕ) × (h : Held) × IsPagerAt self.old (H.state host.old) redone base start groups forced × (held self.old.frames key ≡ Some h) }
+        ensures steps { IsTrue H.tells → (redone : Progress) (base : ℕ) (start : Folder) (groups : Seq Logged) (forced : ℕ) (h : Held) → IsPagerAt self.old (H.state host.old) redone base start groups forced
+            → held self.old.frames key ≡ Some h → h.dirty ≡ true → is_pinned self.old.frames key ≡ false → seen page.now ≡ Some (as_seen h) → IsForced h.lsn groups forced
+            → StepsAt self.old self.new (H.state host.old) (H.state host.new) redone base start groups forced (is_ok result) }
         ensures pins { self.new.frames.pins ≡ self.old.frames.pins }
         ensures fewer { (k : ℕ) → held self.old.frames k ≡ None → held self.new.frames k ≡ None }
         ensures clean { OnOk result (is_dirty (held self.new.frames) key ≡ false) }
@@ -125,9 +149,9 @@ impl PageStore {
             return Ok(());
         }
         let mut page: Page = *frame.page;
-        page.seal(bounded(frame.lsn));
-        let _end = self.log.end();
-        self.force_all(host)?;
+        let lsn = bounded(frame.lsn);
+        page.seal(lsn);
+        self.force_for(host, lsn)?;
         self.put(host, key, &page)
     }
 

@@ -125,21 +125,25 @@ module _ (opened : List ℕ → Bool) (gs : List Logged) where
   no_file (Some None) is = is
   no_file (Some (Some maker)) is = (cc)
 
-  -- A page of an open table is written of which all groups make the same, while all are forced.
-  pub write_step : (name : List ℕ) (p : Part) (n : ℕ) (page : List ℕ) (now : Folder) → IsTrue (opened name) → redo name p n (life_of name gs).since (seen page) ≡ page_in (tables_of now gs name) p n → n < count_in (tables_of now gs name) p
-      → (n ≡ 0 → (maker : Maker) → (life_of name gs).last ≡ Some (Some maker) → lsn_number maker.at ≤ page_number page) → IsNeutral opened gs (length gs) now (MayWrite (file name p) n page)
-  write_step name p n page now on made within first d c is (inl same) = none_done (length gs) now d c is same
-  write_step name p n page now on made within first d c is (inr (inr torn)) = absurd (not_torn name p torn.0)
-  write_step name p n page now on made within first d c is (inr (inl same)) = by (d (file name p)) refl
+  -- A page of an open table is written of which each front that has the forced groups makes the same, and that it has.
+  pub write_step : (forced : ℕ) (name : List ℕ) (p : Part) (n : ℕ) (page : List ℕ) (now : Folder) → IsTrue (opened name)
+      → ((m : ℕ) → forced ≤ m → m ≤ length gs → (life_of name (take m gs)).last ≡ (life_of name gs).last)
+      → ((m : ℕ) → forced ≤ m → m ≤ length gs → redo name p n (life_of name (take m gs)).since (seen page) ≡ page_in (tables_of now (take m gs) name) p n)
+      → ((m : ℕ) → forced ≤ m → m ≤ length gs → n < count_in (tables_of now (take m gs) name) p)
+      → (n ≡ 0 → (maker : Maker) → (life_of name gs).last ≡ Some (Some maker) → lsn_number maker.at ≤ page_number page) → IsNeutral opened gs forced now (MayWrite (file name p) n page)
+  write_step forced name p n page now on lasts made within first d c is (inl same) = none_done forced now d c is same
+  write_step forced name p n page now on lasts made within first d c is (inr (inr torn)) = absurd (not_torn name p torn.0)
+  write_step forced name p n page now on lasts made within first d c is (inr (inl same)) = by (d (file name p)) refl
     where
-      whole : tables_of d gs name ≡ tables_of now gs name
-      whole = subst (λ (l : List Logged). tables_of d l name ≡ tables_of now l name) (take_all (length gs) gs (omega arith)) (sym (is.agrees.tables (length gs) (omega arith) (omega arith) name))
-
-      by : (content : Content) → d (file name p) ≡ content → IsImage opened gs (length gs) d c
+      by : (content : Content) → d (file name p) ≡ content → IsImage opened gs forced d c
       by None none = absurd (no_file (life_of name gs).last (subst (IsCurrent (life_of name gs).last) none (is.current name on p)))
-      by (Some pages) some = subst (IsImage opened gs (length gs) d) (sym (same ∙ ap (λ (f : Content). with_file (file name p) (option_map (put_page n page) f) d) some)) (record {
-        agrees = all_forced d put (one_name name gs d put (aside name p (Some (put_page n page pages)) d)
-            (written_alike name gs p d pages some (is.current name on) n page (made ∙ sym (ap (λ (t : Option Table). page_in t p n) whole)) (subst (λ (t : Option Table). n < count_in t p) (sym whole) within) after));
+      by (Some pages) some = subst (IsImage opened gs forced d) (sym (same ∙ ap (λ (f : Content). with_file (file name p) (option_map (put_page n page) f) d) some)) (record {
+        agrees = record {
+          tables = λ m lo hi. one_name name (take m gs) d put (aside name p (Some (put_page n page pages)) d)
+              (written_alike name (take m gs) p d pages some (λ part. subst (λ (l : Option (Option Maker)). IsCurrent l (d (file name part))) (sym (lasts m lo hi)) (is.current name on part)) n page
+              (made m lo hi ∙ ap (λ (t : Option Table). page_in t p n) (is.agrees.tables m lo hi name)) (subst (λ (t : Option Table). n < count_in t p) (is.agrees.tables m lo hi name) (within m lo hi))
+              (subst (λ (l : Option (Option Maker)). IsCurrent l (Some (put_page n page pages))) (sym (lasts m lo hi)) after));
+        };
         current = λ other lit part. now_current other part lit (same_name name other) refl;
       })
         where

@@ -1,5 +1,6 @@
 -- Frames over a folder: each step of redo and of a running pager.
-use Rattle.std.proofs.Common.{◌≡◌, ◌∙◌, ◌||◌, ℕ, ◌+◌, ◌<◌, ◌≤◌, Bool, true, false, cond, List, [], ◌∷◌, ◌++◌, length, nat_eq, ap, sym, refl, subst, arith, Option, None, Some, ◌-◌, max, IsTrue}
+use Rattle.std.proofs.Common.{◌≡◌, ◌∙◌, ◌||◌, ℕ, ◌+◌, ◌<◌, ◌≤◌, Bool, true, false, cond, List, [], ◌∷◌, ◌++◌, length, nat_eq, ap, sym, refl, subst, arith, Option, None, Some, ◌-◌, max, drop, IsTrue}
+use Rattle.std.specs.Prelude.{All}
 use Rattle.std.specs.Option.{option_map}
 use Rattle.std.specs.Map.{update}
 use Rattle.aria_page.specs.declared.edit.Edit.{Edit}
@@ -15,6 +16,7 @@ use Rattle.aria_recovery.specs.Frames.{Frames, Spot, Spots, as_seen, raw_at, red
 use Rattle.aria_host.specs.Steps.{MayWrite}
 use Rattle.aria_host.specs.Seen.{page_or_zero}
 use Rattle.aria_recovery.specs.Images.{IsNeutral}
+use Rattle.aria_recovery.specs.Forced.{IsForced}
 use Rattle.aria_recovery.proofs.Framing.{front_step}
 use Rattle.aria_recovery.proofs.Frames.{frame_none, frame_alike, frame_washed, frame_free, frame_edited, frame_passed, frame_ended, frame_begun}
 use Rattle.aria_recovery.proofs.Behind.{redone_zero, redone_steady, redone_next, redone_push, edits_begin}
@@ -103,13 +105,14 @@ over_pushed known frames pins place d gs g at' next next' low le quiet frame =
     (frame_ended known frames pins (λ k. raw_at d (place k)) (λ k. redone_at gs (length gs) (place k) (raw_at d (place k))) (λ k. edits_of gs (length gs) g.group (place k)) (number_at g.at) next
     (λ k. redone_at (gs ++ g ∷ []) (length (gs ++ g ∷ [])) (place k) (raw_at d (place k))) at' next' low le (λ k. redone_push gs g (place k) (raw_at d (place k)) (quiet k)) frame)
 
--- A HELD PAGE MAY BE WRITTEN once all groups are forced, where it isn't pinned, also while redo is at some group.
-pub over_neutral : (opened : List ℕ → Bool) (known : ℕ → Bool) (frames : Frames) (pins : ℕ → Bool) (place : Spots) (d : Folder) (gs : List Logged) (redone : Progress) (rs : List Record) (at next : ℕ) (n : ℕ) (h : Held) (s : Spot) (page : List ℕ) (pages : List (List ℕ))
+-- A HELD PAGE MAY BE WRITTEN once its own last group is forced, where it isn't pinned, also while redo is at some group.
+pub over_neutral : (opened : List ℕ → Bool) (known : ℕ → Bool) (frames : Frames) (pins : ℕ → Bool) (place : Spots) (d : Folder) (gs : List Logged) (forced : ℕ) (redone : Progress) (rs : List Record) (at next : ℕ) (n : ℕ) (h : Held) (s : Spot) (page : List ℕ) (pages : List (List ℕ))
     → place n ≡ Some s → frames n ≡ Some h → pins n ≡ false → seen page ≡ Some (as_seen h) → IsTrue (opened s.name) → AreCurrent s.name gs d → d (file s.name s.part) ≡ Some pages
-    → s.page < max (length pages) (reach s.name s.part (life_of s.name gs).since) → FramesOver known frames pins place d gs redone rs at next → IsNeutral opened gs (length gs) d (MayWrite (file s.name s.part) s.page page)
-over_neutral opened known frames pins place d gs redone rs at next n h s page pages here there free sealed on current is within frame =
-    front_step opened gs s.name s.part s.page page d pages h.lsn h.body (redone n - base_of s.name gs) on current is
+    → s.page < max (length pages) (reach s.name s.part (life_of s.name gs).since) → All (λ g. told_by s.name g ≡ None) (drop forced gs) → IsForced h.lsn gs forced → FramesOver known frames pins place d gs redone rs at next
+    → IsNeutral opened gs forced d (MayWrite (file s.name s.part) s.page page)
+over_neutral opened known frames pins place d gs forced redone rs at next n h s page pages here there free sealed on current is within quiet ahead frame =
+    front_step opened gs s.name s.part s.page page d pages h.lsn h.body forced (redone n - base_of s.name gs) on current is
     (ap (redo s.name s.part s.page (front_of s.name gs (redone n))) (ap (λ (c : Content). seen (page_or_zero s.page c)) (sym is))
     ∙ ap (λ (spot : Option Spot). redone_at gs (redone n) spot (raw_at d spot)) (sym here)
     ∙ frame_free known frames pins (λ k. raw_at d (place k)) (λ k. redone_at gs (redone k) (place k) (raw_at d (place k))) (λ k. edits_of gs (redone k) rs (place k)) at next n h there free frame)
-    sealed within
+    sealed within quiet ahead

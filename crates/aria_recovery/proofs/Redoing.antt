@@ -1,5 +1,6 @@
 -- Laws of redo on one page.
-use Rattle.std.proofs.Common.{◌≡◌, ◌∙◌, ℕ, zero, suc, ◌≤◌, Bool, cond, List, [], ◌∷◌, ◌++◌, length, take, drop, max, ap, sym, refl, subst, arith, None, Some, inl, inr}
+use Rattle.std.proofs.Common.{◌≡◌, ◌∙◌, ℕ, zero, suc, ◌<◌, ◌≤◌, Bool, cond, List, [], ◌∷◌, ◌++◌, length, take, drop, max, ap, sym, refl, subst, arith, None, Some, inl, inr}
+use Rattle.std.specs.List.{AllByRecursion}
 use Rattle.std.proofs.lemmas.Bool.{cases_lt}
 use Rattle.std.proofs.lemmas.List.{take-take, take-append-drop, take_all}
 use Rattle.aria_page.specs.declared.edit.Edit.{Edit}
@@ -95,6 +96,31 @@ module _ (name : List ℕ) (part : Part) (n : ℕ) where
   redo_front j gs x =
       ap (λ (l : List Logged). redo name part n l (redo name part n (take j gs) x)) (sym (take_all (length gs) gs (omega arith)))
       ∙ redo_max j (length gs) gs x ∙ ap (λ (l : List Logged). redo name part n l x) (take_all (max j (length gs)) gs (omega arith))
+
+  -- a page that bears an earlier number than these groups is as it was before them
+  pub redo_before : (gs : List Logged) (x : Seen) (s : ℕ × List ℕ) → AllByRecursion (λ (g : Logged). s.0 < number_at g.at) gs → redo name part n gs x ≡ Some s → x ≡ Some s
+  redo_before [] x s later is = is
+  redo_before (g ∷ gs) x s later is = by (edits_on name part n g.group) (redo_before gs (stepped (number_at g.at) (edits_on name part n g.group) x) s later.1 is)
+    where
+      by : (es : List Edit) → stepped (number_at g.at) es x ≡ Some s → x ≡ Some s
+      by [] same = same
+      by (e ∷ es) same = absurd (let from : number_at g.at ≤ s.0 = subst (IsFrom (number_at g.at)) same (reached (number_at g.at) e es x) in omega (arith, from, later.0))
+
+  take_each : (P : Logged → Type 0) (j : ℕ) (gs : List Logged) → AllByRecursion P gs → AllByRecursion P (take j gs)
+  take_each P zero gs each = tt
+  take_each P (suc j) [] each = tt
+  take_each P (suc j) (g ∷ gs) each = (each.0, take_each P j gs each.1)
+
+  -- a front of two lists of groups, of which the second ones have later numbers than the page: that front of the first ones makes it
+  pub redo_fewer : (j : ℕ) (gs hs : List Logged) (x : Seen) (s : ℕ × List ℕ) → AllByRecursion (λ (g : Logged). s.0 < number_at g.at) hs → redo name part n (take j (gs ++ hs)) x ≡ Some s → redo name part n (take j gs) x ≡ Some s
+  redo_fewer zero gs hs x s later is = is
+  redo_fewer (suc j) [] hs x s later is = redo_before (take (suc j) hs) x s (take_each (λ (g : Logged). s.0 < number_at g.at) (suc j) hs later) is
+  redo_fewer (suc j) (g ∷ gs) hs x s later is = redo_fewer j gs hs (stepped (number_at g.at) (edits_on name part n g.group) x) s later is
+
+  -- the first ones make the same of that page as of what it came from
+  pub redo_within : (j : ℕ) (gs hs : List Logged) (x : Seen) (s : ℕ × List ℕ) → AllByRecursion (λ (g : Logged). s.0 < number_at g.at) hs → redo name part n (take j (gs ++ hs)) x ≡ Some s
+      → redo name part n gs (Some s) ≡ redo name part n gs x
+  redo_within j gs hs x s later is = ap (redo name part n gs) (sym (redo_fewer j gs hs x s later is)) ∙ redo_front j gs x
 
   pub redo_none : (gs : List Logged) → redo name part n gs None ≡ None
   redo_none [] = refl

@@ -7,3 +7,4 @@ pub mod Noted
 pub mod Analysed
 pub mod Moves
 pub mod Midway
+pub mod Forced

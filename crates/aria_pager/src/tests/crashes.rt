@@ -10,7 +10,7 @@ use std::alloc::Global;
 use std::test::Fail;
 
 // The 8 bytes that the group of this number writes.
-fn text(nth: u32) -> [u8; 8] {
+pub(super) fn text(nth: u32) -> [u8; 8] {
     let [a, b, c, d] = nth.to_be_bytes();
     [b'#', a, b, c, d, b'#', b'#', b'#']
 }
@@ -91,14 +91,14 @@ fn groups_that_were_forced_are_found(rt: HostRuntime) -> Result<(), Fail> {
     Ok(())
 }
 
-// With 64 pages in memory each group from the 65th on takes a page out, which brings all groups before it to the disk. So the
-// last one alone is lost.
+// With 64 pages in memory each group from the 65th on takes a page out. All groups before it are brought to the disk by those
+// that take out the pages 1, 65 and 129, whose own groups aren't there yet: by the 65th, the 129th and the 193rd.
 #[test]
 fn a_front_of_the_others_is_found(rt: HostRuntime) -> Result<(), Fail> {
     let _file = FileName::Control;
     let alloc = rt.alloc();
-    assert_eq!(rt; survive(alloc, false, b'k')?, Some(199));
-    assert_eq!(rt; survive(alloc, false, b'l')?, Some(199));
+    assert_eq!(rt; survive(alloc, false, b'k')?, Some(192));
+    assert_eq!(rt; survive(alloc, false, b'l')?, Some(192));
     Ok(())
 }
 
@@ -110,7 +110,7 @@ fn titled(text: &[u8; 4]) -> Page {
 }
 
 // The first 8100 bytes of a body.
-fn most(body: &[u8]) -> &[u8]
+pub(super) fn most(body: &[u8]) -> &[u8]
     ensures { length result.now ≤ length body.now }
 {
     match body.get(..8100) {

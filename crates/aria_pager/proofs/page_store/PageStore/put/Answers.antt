@@ -1,4 +1,4 @@
-use Rattle.std.proofs.Common.{◌≡◌, ◌∙◌, ◌/◌, ◌^◌, ℕ, true, false, is_ok, List, length, ap, sym, refl, subst}
+use Rattle.std.proofs.Common.{◌≡◌, ◌∙◌, ◌/◌, ◌^◌, ℕ, true, false, is_ok, List, ap, sym, refl, subst}
 use Rattle.std.specs.Prelude.{IsSome}
 use Rattle.std.proofs.lemmas.Option.{slice_get_within}
 use Rattle.std.proofs.lemmas.Result.{err_from_is_err_and}
@@ -23,20 +23,20 @@ pub write_page-requires-clause-there : goal.write_page-requires-clause-there
 write_page-requires-clause-there g c = λ told.
     let p = c.requires.pager told in
     let s = g.H.Host.state c.args.host.now in
-    let here = here_of c.args.self.now s p.0 p.1 p.2 p.3 (length p.3) c.args.key p.4 c.of_key-at.result c.in-Some.slot c.of_key-at.ensures.low c.of_key-at.ensures.is (sym c.in-Some.ensures) p.5 p.6 in
-    subst (λ (f : FileName). IsSome (s.folder f)) (sym c.file-file.ensures) (put_there c.args.self.now s p.0 p.1 p.2 p.3 (length p.3) c.args.key c.of_key-at.result c.in-Some.slot p.5 here)
+    let here = here_of c.args.self.now s p.0 p.1 p.2 p.3 p.4 c.args.key p.5 c.of_key-at.result c.in-Some.slot c.of_key-at.ensures.low c.of_key-at.ensures.is (sym c.in-Some.ensures) p.6 p.7 in
+    subst (λ (f : FileName). IsSome (s.folder f)) (sym c.file-file.ensures) (put_there c.args.self.now s p.0 p.1 p.2 p.3 p.4 c.args.key c.of_key-at.result c.in-Some.slot p.6 here)
 
 pub returns-in_err-write_page-clause-steps : goal.returns-in_err-write_page-clause-steps
-returns-in_err-write_page-clause-steps g c = λ told redone base start groups h is there dirty free sealed.
+returns-in_err-write_page-clause-steps g c = λ told redone base start groups forced h is there dirty free sealed ahead.
     let s = g.H.Host.state c.args.host.now in
     let t = g.H.Host.state c.write_page.new.self in
     let at = c.of_key-at.result in
     let slot = c.in-Some.slot in
     let p = err_from_is_err_and c.from_residual.result c.from_residual.ensures.1 in
-    let here = here_of c.args.self.now s redone base start groups (length groups) c.args.key h at slot c.of_key-at.ensures.low c.of_key-at.ensures.is (sym c.in-Some.ensures) is there in
+    let here = here_of c.args.self.now s redone base start groups forced c.args.key h at slot c.of_key-at.ensures.low c.of_key-at.ensures.is (sym c.in-Some.ensures) is there in
     let spot : Spot = record { name = slot.name; part = at.part; page = at.page } in
-    fault_on c.args.self.now c.args.self.now c.args.self.now s t redone base start groups (length groups) false (is_ok c.from_residual.result) (ap is_ok p.1)
-    (put_failed c.args.self.now s t redone base start groups c.args.key h spot c.args.page.now false record {
+    fault_on c.args.self.now c.args.self.now c.args.self.now s t redone base start groups forced false (is_ok c.from_residual.result) (ap is_ok p.1)
+    (put_failed c.args.self.now s t redone base start groups forced c.args.key h spot c.args.page.now false record {
       only = λ f b left. g.met.H.Host.only_now c.args.host.now f b told left;
       before = g.met.H.Host.reads_now c.args.host.now told;
       after = g.met.H.Host.reads_now c.write_page.new.self told;
@@ -46,6 +46,7 @@ returns-in_err-write_page-clause-steps g c = λ told redone base start groups h 
       dirty = dirty;
       place = here.spot;
       sealed = sealed;
+      ahead = ahead;
       wrote = subst (λ (f : FileName). Writes f at.page c.args.page.now s t false) c.file-file.ensures (c.in_err-write_page.ensures.written told);
     } refl)
 
@@ -53,18 +54,18 @@ pub set_written-requires-clause-there : goal.set_written-requires-clause-there
 set_written-requires-clause-there g c = slice_get_within c.args.self.now.slots c.of_key-at.result.slot c.in-Some.slot (sym c.in-Some.ensures)
 
 pub returns-clause-steps : goal.returns-clause-steps
-returns-clause-steps g c = λ told redone base start groups h is there dirty free sealed.
+returns-clause-steps g c = λ told redone base start groups forced h is there dirty free sealed ahead.
     let store = c.args.self.now in
     let s = g.H.Host.state c.args.host.now in
     let t = g.H.Host.state c.write_page.new.self in
     let at = c.of_key-at.result in
     let slot = c.in-Some.slot in
-    let here = here_of store s redone base start groups (length groups) c.args.key h at slot c.of_key-at.ensures.low c.of_key-at.ensures.is (sym c.in-Some.ensures) is there in
+    let here = here_of store s redone base start groups forced c.args.key h at slot c.of_key-at.ensures.low c.of_key-at.ensures.is (sym c.in-Some.ensures) is there in
     let spot : Spot = record { name = slot.name; part = at.part; page = at.page } in
-    let slots : c.set_written.new.slots ≡ set_at store.slots (c.args.key / 2 ^ 32) (new_slot store s t redone base start groups c.args.key h spot c.args.page.now true slot)
-    = c.set_written.ensures ∙ ap (λ (n : ℕ). set_at store.slots n (new_slot store s t redone base start groups c.args.key h spot c.args.page.now true slot)) (sym here.number) in
-    subst (λ (l : List Slot). StepsAt store (with_slots store l c.clean-2.new.self) s t redone base start groups (length groups) true) (sym slots)
-    (put_done store s t redone base start groups c.args.key h spot c.args.page.now true record {
+    let slots : c.set_written.new.slots ≡ set_at store.slots (c.args.key / 2 ^ 32) (new_slot store s t redone base start groups forced c.args.key h spot c.args.page.now true slot)
+    = c.set_written.ensures ∙ ap (λ (n : ℕ). set_at store.slots n (new_slot store s t redone base start groups forced c.args.key h spot c.args.page.now true slot)) (sym here.number) in
+    subst (λ (l : List Slot). StepsAt store (with_slots store l c.clean-2.new.self) s t redone base start groups forced true) (sym slots)
+    (put_done store s t redone base start groups forced c.args.key h spot c.args.page.now true record {
       only = λ f b left. g.met.H.Host.only_now c.args.host.now f b told left;
       before = g.met.H.Host.reads_now c.args.host.now told;
       after = g.met.H.Host.reads_now c.write_page.new.self told;
@@ -74,6 +75,7 @@ returns-clause-steps g c = λ told redone base start groups h is there dirty fre
       dirty = dirty;
       place = here.spot;
       sealed = sealed;
+      ahead = ahead;
       wrote = subst (λ (f : FileName). Writes f at.page c.args.page.now s t true) c.file-file.ensures (c.in_ok-write_page.ensures.written told);
     } refl slot here.there c.clean-2.new.self c.clean-2.ensures.held (ap (λ v k. is_pinned record { cache = c.clean-2.new.self.cache; pins = v } k) c.clean-2.ensures.pins))
 
@@ -100,8 +102,8 @@ returns-in_err-write_page-clause-pages g c = λ told tidy.
     let store = c.args.self.now in
     let at = c.of_key-at.result in
     let slot = c.in-Some.slot in
-    let here = here_of store s p.0 p.1 p.2 p.3 (length p.3) c.args.key p.4 at slot c.of_key-at.ensures.low c.of_key-at.ensures.is (sym c.in-Some.ensures) p.5 p.6 in
-    looks_put store store s t p.0 p.1 p.2 p.3 (length p.3) c.args.key p.4 at slot c.args.page.now false tidy (same_work store store.frames) refl (λ k. refl) c.of_key-at.ensures.low p.5 here p.6
+    let here = here_of store s p.0 p.1 p.2 p.3 p.4 c.args.key p.5 at slot c.of_key-at.ensures.low c.of_key-at.ensures.is (sym c.in-Some.ensures) p.6 p.7 in
+    looks_put store store s t p.0 p.1 p.2 p.3 p.4 c.args.key p.5 at slot c.args.page.now false tidy (same_work store store.frames) refl (λ k. refl) c.of_key-at.ensures.low p.6 here p.7
     (subst (λ (f : FileName). Writes f at.page c.args.page.now s t false) c.file-file.ensures (c.in_err-write_page.ensures.written told))
 
 pub returns-clause-pages : goal.returns-clause-pages
@@ -112,9 +114,9 @@ returns-clause-pages g c = λ told tidy.
     let store = c.args.self.now in
     let at = c.of_key-at.result in
     let slot = c.in-Some.slot in
-    let here = here_of store s p.0 p.1 p.2 p.3 (length p.3) c.args.key p.4 at slot c.of_key-at.ensures.low c.of_key-at.ensures.is (sym c.in-Some.ensures) p.5 p.6 in
-    looks_put store (with_slots store c.set_written.new.slots c.clean-2.new.self) s t p.0 p.1 p.2 p.3 (length p.3) c.args.key p.4 at slot c.args.page.now true tidy
-    (same_slots store c.clean-2.new.self c.set_written.new.slots at.slot slot at.part _ refl (sym c.in-Some.ensures) c.set_written.ensures) refl (cleaned_alike (held store.frames) (held c.clean-2.new.self) c.args.key c.clean-2.ensures.held) c.of_key-at.ensures.low p.5 here p.6
+    let here = here_of store s p.0 p.1 p.2 p.3 p.4 c.args.key p.5 at slot c.of_key-at.ensures.low c.of_key-at.ensures.is (sym c.in-Some.ensures) p.6 p.7 in
+    looks_put store (with_slots store c.set_written.new.slots c.clean-2.new.self) s t p.0 p.1 p.2 p.3 p.4 c.args.key p.5 at slot c.args.page.now true tidy
+    (same_slots store c.clean-2.new.self c.set_written.new.slots at.slot slot at.part _ refl (sym c.in-Some.ensures) c.set_written.ensures) refl (cleaned_alike (held store.frames) (held c.clean-2.new.self) c.args.key c.clean-2.ensures.held) c.of_key-at.ensures.low p.6 here p.7
     (subst (λ (f : FileName). Writes f at.page c.args.page.now s t true) c.file-file.ensures (c.in_ok-write_page.ensures.written told))
 
 pub returns-in_default-clause-fewer : goal.returns-in_default-clause-fewer
