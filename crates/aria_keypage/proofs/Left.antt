@@ -21,7 +21,7 @@ item_fits width (x ∷ items) zero all h = all.0
 item_fits width (x ∷ items) (suc at) all h = item_fits width items at all.1 (omega arith)
 
 -- the items from a position on are the one there and those behind it
-packed-at : (width : ℕ) (items : List Item) (at : ℕ) → at < length items → packed width (entry_before items at) (drop at items) ≡ packed_item width (entry_before items at) (item_at items at) ++ packed width (item_at items at).entry (drop (at + 1) items)
+pub packed-at : (width : ℕ) (items : List Item) (at : ℕ) → at < length items → packed width (entry_before items at) (drop at items) ≡ packed_item width (entry_before items at) (item_at items at) ++ packed width (item_at items at).entry (drop (at + 1) items)
 unfolding packed
 packed-at width items at h = ap (packed width (entry_before items at)) (drop_more items at (record { entry = []; to = 0 }) h)
 

@@ -18,3 +18,4 @@ pub mod Child
 pub mod Between
 pub mod Sizes
 pub mod Fans
+pub mod ReadingOn

@@ -8,3 +8,4 @@ pub mod Change
 pub mod Merge
 pub mod Split
 pub mod Child
+pub mod LeafReading

@@ -122,7 +122,7 @@ pub(crate) fn entry_behind(
 }
 
 // The number in bytes of the size of a target or of a child.
-fn number_in(kind: Kind, bytes: &[u8]) -> u64
+pub(crate) fn number_in(kind: Kind, bytes: &[u8]) -> u64
     ensures { (n : ℕ) → n < 256 ^ width kind → bytes.now ≡ number (width kind) n → result ≡ n }
 {
     match kind {
