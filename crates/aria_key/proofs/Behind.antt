@@ -18,7 +18,7 @@ use Rattle.aria_key.proofs.Bounds.{names-append}
 use Rattle.aria_key.proofs.Owning.{all-onto}
 
 -- lists with the same last element
-same-last : {X : Type 0} (a b : List X) (x y : X) → a ++ x ∷ [] ≡ b ++ y ∷ [] → (a ≡ b) × (x ≡ y)
+pub same-last : {X : Type 0} (a b : List X) (x y : X) → a ++ x ∷ [] ≡ b ++ y ∷ [] → (a ≡ b) × (x ≡ y)
 same-last [] [] x y e = (refl, cc)
 same-last [] (z ∷ b) x y e = absurd (omega (arith, ap length e, length-append b (y ∷ [])))
 same-last (z ∷ a) [] x y e = absurd (omega (arith, ap length e, length-append a (x ∷ [])))

@@ -25,3 +25,10 @@ pub mod Reading
 pub mod Finding
 pub mod Behind
 pub mod Onward
+pub mod Then
+pub mod GoingUp
+pub mod Landing
+pub mod Stepping
+pub mod Going
+pub mod Arriving
+pub mod Fronts

@@ -17,7 +17,9 @@ rest-sought bodies count key root entry levels walk page at same path t f = reco
   levels = levels;
   walk = walk;
   tree = t;
+  ups = f.ups;
   leaves = f.leaves;
+  whole = f.whole;
   named = _;
   level = f.under.0;
   hold = f.hold.0;
@@ -36,7 +38,7 @@ rest-here bodies count root page at next rest h low =
     let k = next-here h.leaves page at next rest h.cursor low in (
       drop (at + 1) h.cursor.here.content.items ++ items_on h.cursor.behind,
       k.0,
-      record { key = h.key; levels = h.levels; walk = h.walk; tree = h.tree; leaves = h.leaves; named = h.named; level = h.level; hold = h.hold; all = h.all; cursor = k.1 },
+      record { key = h.key; levels = h.levels; walk = h.walk; tree = h.tree; ups = h.ups; leaves = h.leaves; whole = h.whole; named = h.named; level = h.level; hold = h.hold; all = h.all; cursor = k.1 },
     )
 
 -- behind the last leaf's last item none comes
@@ -49,3 +51,14 @@ pub rest-on : (bodies : ℕ → Option (List ℕ)) (count root page at : ℕ) (l
 rest-on bodies count root page at low rest there place same path h high f =
     let is : rest ≡ from low h.walk = next-leaf h.leaves h.key page at low rest h.named h.level h.cursor high ∙ ap (from low) (sym h.all) in
     subst (HasRest bodies count root there place (next_low f.on.behind)) (sym is) (rest-sought bodies count h.key root low h.levels h.walk there place same path h.tree f)
+
+-- so behind another leaf's last item those from the next one's low on are still to come
+pub rest-from : (bodies : ℕ → Option (List ℕ)) (count root page at : ℕ) (next : Option (List ℕ)) (low : List ℕ) (rest : List Item) → (h : HasRest bodies count root page at next rest) → next ≡ Some low → length h.cursor.here.content.items ≤ at → rest ≡ from low h.walk
+rest-from bodies count root page at next low rest h e high =
+    next-leaf h.leaves h.key page at low rest h.named h.level (record { before = h.cursor.before; here = h.cursor.here; behind = h.cursor.behind; parts = h.cursor.parts; page_is = h.cursor.page_is; next_is = sym e ∙ h.cursor.next_is; rest_is = h.cursor.rest_is }) high
+    ∙ ap (from low) (sym h.all)
+
+-- and behind that of the last leaf none
+pub rest-ends : (bodies : ℕ → Option (List ℕ)) (count root page at : ℕ) (next : Option (List ℕ)) (rest : List Item) → (h : HasRest bodies count root page at next rest) → next ≡ None → length h.cursor.here.content.items ≤ at → rest ≡ []
+rest-ends bodies count root page at next rest h e high =
+    next-none h.leaves page at rest (record { before = h.cursor.before; here = h.cursor.here; behind = h.cursor.behind; parts = h.cursor.parts; page_is = h.cursor.page_is; next_is = sym e ∙ h.cursor.next_is; rest_is = h.cursor.rest_is }) high

@@ -5,7 +5,7 @@ use Rattle.aria_keypage.specs.declared.kind.Kind.TheVariants.{Leaf}
 use Rattle.aria_keypage.specs.Item.{Item}
 use Rattle.aria_key.specs.declared.path.Passed.{Passed}
 use Rattle.aria_key.specs.Tree.{Placed, items_on, IsLevel, Holds, HoldAll, IsTree}
-use Rattle.aria_key.specs.Climb.{above, Over, IsPath}
+use Rattle.aria_key.specs.Climb.{above, Over, IsPath, onto}
 use Rattle.aria_key.specs.Rest.{IsCursor}
 
 -- the entry of the item at a position, from 0 on; none behind the last
@@ -31,7 +31,9 @@ pub record HasRest (bodies : ℕ → Option (List ℕ)) (count root page at : �
   pub levels : List (List Placed)
   pub walk : List Item
   pub tree : IsTree bodies count key root levels walk
+  pub ups : List (List Placed)
   pub leaves : List Placed
+  pub whole : onto ups (leaves ∷ []) ≡ levels
   pub named : List Item
   pub level : IsLevel Leaf key named leaves
   pub hold : AllByRecursion (Holds bodies count) leaves

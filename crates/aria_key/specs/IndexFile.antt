@@ -7,7 +7,7 @@ use Rattle.aria_page.specs.Number.{number_of, number}
 use Rattle.aria_page.specs.Page.{with_bytes}
 use Rattle.aria_keypage.specs.Item.{Item}
 use Rattle.aria_value.specs.declared.definition.TheConstants.{MAX_KEYS}
-use Rattle.aria_value.specs.declared.header.TheConstants.{FREE_AT, ROOTS_AT}
+use Rattle.aria_key.specs.declared.layout.TheConstants.{FREE_AT, ROOTS_AT}
 use Rattle.aria_key.specs.Tree.{Placed, IsTree}
 use Rattle.aria_key.specs.Owned.{times_in}
 

@@ -11,3 +11,6 @@ pub mod Standing
 pub mod Reading
 pub mod Way
 pub mod Cursor
+pub mod WayUp
+pub mod Ahead
+pub mod Prefixed

@@ -1,6 +1,6 @@
 //! The way from a root down to a leaf.
 
-ghost use Rattle.std.specs.Prelude.{◌≡◌, ◌+◌, ◌<◌, [], ◌∷◌, ◌++◌};
+ghost use Rattle.std.specs.Prelude.{◌≡◌, ◌+◌, ◌<◌, [], ◌∷◌, ◌++◌, MatchOption};
 ghost use Rattle.aria_key.specs.Path.{passed};
 
 /// The most levels of a tree that are read.
@@ -30,6 +30,22 @@ impl Path {
             steps: [Passed { page: 0, at: 0 }; MAX_LEVELS],
             len: 0,
         }
+    }
+
+    // Goes back up to the last node that was passed, and forgets it; none at the root.
+    pub(crate) fn up(&mut self) -> Option<Passed>
+        ensures { MatchOption result (passed self.old ≡ []) (λ step. passed self.old ≡ passed self.new ++ step ∷ []) }
+    {
+        let len = if self.len < MAX_LEVELS {
+            self.len
+        } else {
+            MAX_LEVELS
+        };
+        if len == 0 {
+            return None;
+        }
+        self.len = len - 1;
+        Some(self.steps[len - 1])
     }
 
     // The way goes on through this child of a node.
