@@ -12,6 +12,7 @@ pub mod Causing
 pub mod Writing
 pub mod Blobs
 pub mod Looking
+pub mod Running
 pub mod Adding
 pub mod Promising
 pub mod Grown

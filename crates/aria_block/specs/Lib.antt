@@ -8,5 +8,6 @@ pub mod Cut
 pub mod Blob
 pub mod Growing
 pub mod Finding
+pub mod Runs
 pub mod Causes
 pub mod HoldsRows
