@@ -13,6 +13,7 @@ pub mod Writing
 pub mod Blobs
 pub mod Looking
 pub mod Running
+pub mod Sizes
 pub mod Adding
 pub mod Promising
 pub mod Grown

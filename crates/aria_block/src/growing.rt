@@ -27,8 +27,8 @@ fn kind_at(page: u32) -> u8
     PageKind::FreeData.to_byte()
 }
 
-// Makes the file one page longer: by a bitmap page where its number asks for one, else by a free page.
-fn add_one<P: Pages>(
+/// Makes the file one page longer: by a bitmap page where its number asks for one, else by a free page.
+pub(crate) fn add_one<P: Pages>(
     alloc: Global,
     pages: &mut P,
     group: &mut OpenGroup,

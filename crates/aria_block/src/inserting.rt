@@ -7,6 +7,7 @@ ghost use Rattle.aria_block.specs.Pieces.{Pieces};
 ghost use Rattle.aria_block.specs.DataFile.{HoldsData};
 ghost use Rattle.aria_block.specs.Puts.{PartKept};
 ghost use Rattle.aria_block.specs.Finding.{HasPromise, GrowsLast};
+ghost use Rattle.aria_block.specs.Runs.{GrowsForPart};
 
 use crate::finding::find_page;
 use crate::growing::add_page;
@@ -41,6 +42,7 @@ pub(crate) fn page_for<P: Pages>(
         → OnOk result (HoldsData ((P.state pages.new).counts (rows_file (P.state pages.old) slot)) ((P.state pages.new).bodies (rows_file (P.state pages.old) slot)) pieces) }
     ensures promise { IsTrue P.tells → (pieces : Pieces) → HoldsData ((P.state pages.old).counts (rows_file (P.state pages.old) slot)) ((P.state pages.old).bodies (rows_file (P.state pages.old) slot)) pieces
         → IfOk result (λ page. HasPromise kind len page ((P.state pages.new).bodies (rows_file (P.state pages.old) slot))) }
+    ensures needed { IsTrue P.tells → OnOk result (GrowsForPart kind len (rows_file (P.state pages.old) slot) (P.state pages.old) (P.state pages.new)) }
     ensures last { IsTrue P.tells → IfOk result (λ page. GrowsLast kind len ((P.state pages.old).counts (rows_file (P.state pages.old) slot)) ((P.state pages.old).bodies (rows_file (P.state pages.old) slot)) page) }
     ensures plain { IfOk result (λ page. page % MAP_EVERY ≢ 0) }
     ensures below { IfOk result (λ page. page < (P.state pages.new).counts (rows_file (P.state pages.old) slot)) }
@@ -85,6 +87,7 @@ pub(crate) fn insert_part<P: Pages>(
     ensures spends { Spends 4 6 (347 + length bytes.now) (P.state pages.old) (P.state pages.new) }
     ensures holds { IsTrue P.tells → (pieces : Pieces) → HoldsData ((P.state pages.old).counts (rows_file (P.state pages.old) slot)) ((P.state pages.old).bodies (rows_file (P.state pages.old) slot)) pieces
         → IfOk result (λ place. PartKept kind ((P.state pages.new).counts (rows_file (P.state pages.old) slot)) ((P.state pages.new).bodies (rows_file (P.state pages.old) slot)) place.page None place.slot bytes.now pieces) }
+    ensures needed { IsTrue P.tells → OnOk result (GrowsForPart kind (length bytes.now) (rows_file (P.state pages.old) slot) (P.state pages.old) (P.state pages.new)) }
     ensures last { IsTrue P.tells → IfOk result (λ place. GrowsLast kind (length bytes.now) ((P.state pages.old).counts (rows_file (P.state pages.old) slot)) ((P.state pages.old).bodies (rows_file (P.state pages.old) slot)) place.page) }
     ensures count { OnOk result ((P.state pages.new).counts (rows_file (P.state pages.old) slot) ≤ (P.state pages.old).counts (rows_file (P.state pages.old) slot) + 2) }
     ensures inside { IsTrue P.tells → OnOk result (StaysIn P.logged (rows_file (P.state pages.old) slot) (P.state pages.old) (P.state pages.new)) }

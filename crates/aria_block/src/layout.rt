@@ -31,3 +31,15 @@ pub const MAP_EVERY: u32 = PATTERNS + 1;
 
 /// The most bytes of a part that a free page takes.
 pub const PART_MAX: usize = 8_173;
+
+/// The most bytes of a row.
+pub const ROW_MAX: usize = 65_540;
+
+/// The most bytes of a head.
+pub const HEAD_MAX: usize = HEAD_FIELDS + WHOLE_MAX;
+
+/// The most blob pages of a row.
+pub const BLOBS_MAX: u32 = 8;
+
+/// A data file with so many pages or more takes no row more.
+pub const FULL_PAGES: u32 = 1 << 30;

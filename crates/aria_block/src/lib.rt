@@ -19,6 +19,7 @@ mod layout;
 mod part;
 mod part_kind;
 mod placing;
+mod row_bytes;
 mod run;
 mod spot;
 mod take;
