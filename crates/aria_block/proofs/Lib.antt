@@ -13,7 +13,10 @@ pub mod Writing
 pub mod Blobs
 pub mod Looking
 pub mod Running
+pub mod Freeing
+pub mod Stored
 pub mod Sizes
+pub mod Stepping
 pub mod Adding
 pub mod Promising
 pub mod Grown

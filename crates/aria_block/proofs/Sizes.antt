@@ -84,3 +84,11 @@ long_row n long most =
 -- where the bytes of a blob page begin
 pub blob_from : (n k : ℕ) → 5986 < n → n ≤ 65540 → k < blob_count n → head_size n + 8180 * k ≤ n - tail_size n
 blob_from n k long most low = let row = long_row n long most in let ends = row.ends k low in let head = head_long n long in omega (arith, head, ends)
+
+-- what a long row takes of the log
+pub long_bytes : (n : ℕ) → 5986 < n → n ≤ 65540 → 1312 + 8351 * blob_count n + (347 + tail_size n) + (361 + head_size n) ≤ n + 10000
+long_bytes n long most = let row = long_row n long most in let bytes = row.bytes in let many = row.many in let head = head_long n long in omega (arith, head, bytes, many)
+
+-- and a short one
+pub short_bytes : (n : ℕ) → n ≤ 5986 → 361 + head_size n ≤ n + 10000
+short_bytes n short = let head = head_short n short in omega (arith, head)

@@ -11,3 +11,4 @@ pub mod Finding
 pub mod Runs
 pub mod Causes
 pub mod HoldsRows
+pub mod Storing

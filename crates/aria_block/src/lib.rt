@@ -10,12 +10,14 @@
 #![tactic(auto, using(aria_cache::proofs::Growing::grows_same, aria_cache::proofs::Growing::grows_on, aria_cache::proofs::Growing::grows_edited, aria_cache::proofs::Growing::stays_same, aria_cache::proofs::Growing::stays_on, crate::proofs::Causing::page_cause, crate::proofs::Causing::cause_then, crate::proofs::Causing::keeps_loaded, crate::proofs::Looking::looks_loaded, crate::proofs::Looking::looks_on, crate::proofs::Looking::keeps_looked, crate::proofs::Causing::keeps_edited, crate::proofs::Causing::keeps_on))]
 
 mod blob;
+mod blob_run;
 mod codes;
 mod cut;
 mod finding;
 mod growing;
 mod inserting;
 mod layout;
+mod lengthening;
 mod part;
 mod part_kind;
 mod placing;
@@ -26,3 +28,4 @@ mod take;
 
 pub use layout::MAP_EVERY;
 pub use part_kind::PartKind;
+
