@@ -17,6 +17,7 @@ pub mod Freeing
 pub mod Stored
 pub mod Sizes
 pub mod Stepping
+pub mod Whole
 pub mod Adding
 pub mod Promising
 pub mod Grown

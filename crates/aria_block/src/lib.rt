@@ -24,8 +24,10 @@ mod placing;
 mod row_bytes;
 mod run;
 mod spot;
+mod storing;
 mod take;
 
 pub use layout::MAP_EVERY;
 pub use part_kind::PartKind;
+pub use storing::insert_row;
 
