@@ -23,4 +23,7 @@ pub mod Promising
 pub mod Grown
 pub mod Cutting
 pub mod Taken
+pub mod Measuring
+pub mod HeadText
+pub mod PartsAt
 mod Worked

@@ -12,3 +12,4 @@ pub mod Runs
 pub mod Causes
 pub mod HoldsRows
 pub mod Storing
+pub mod Reading

@@ -72,7 +72,7 @@ fn directory(body: &[u8], nth: u8, at: u16, len: u16, left: u8) -> [u8; 1020]
 }
 
 // Whether a part can lie there.
-fn lies(at: u16, len: u16, end: u16, entries: u8) -> bool
+pub(crate) fn lies(at: u16, len: u16, end: u16, entries: u8) -> bool
     ensures yes { result ≡ true → Lies at len end entries }
     ensures no { Lies at len end entries → result ≡ true }
 {
