@@ -26,4 +26,7 @@ pub mod Taken
 pub mod Measuring
 pub mod HeadText
 pub mod PartsAt
+pub mod ReadPages
+pub mod OnPages
+pub mod RowRead
 mod Worked

@@ -1,5 +1,6 @@
 -- How many bytes of a row lie on its blob pages.
 use Rattle.std.proofs.Common.{◌≡◌, ℕ, ◌+◌, ◌-◌, ◌*◌, ◌/◌, ◌%◌, ◌≤◌, ◌<◌, min, Bool, true, false, cond, nat_le, inl, inr, List, ◌++◌, length, take, drop, refl, sym, ap, ◌∙◌, arith, subst, take-add}
+use Rattle.std.specs.Prelude.{Result, Ok, Err, OnOk}
 use Rattle.std.proofs.lemmas.Bool.{cases_Bool}
 use Rattle.std.proofs.lemmas.Bool.Decides.{nat_tests}
 use Rattle.std.proofs.lemmas.List.{length-take, length-drop, take-take, take-append-drop, take_all}
@@ -68,3 +69,45 @@ whole_front row m at le low = take_past (take m row) at (omega (arith, le, low, 
 pub tail_behind : (row : List ℕ) → take (length row - tail_size (length row)) row ++ tail_of row ≡ row
 unfolding tail_of
 tail_behind row = take-append-drop (length row - tail_size (length row)) row
+
+-- ---- the row bytes that were read so far
+
+pub text_first : (row out : List ℕ) → out ≡ take (head_size (length row)) row → out ≡ take (head_size (length row) + 8180 * 0) (take (length row - tail_size (length row)) row)
+text_first row out is =
+    let none : head_size (length row) + 8180 * 0 ≡ head_size (length row) = at (head_size (length row)) in
+    is ∙ sym (ap (λ (n : ℕ). take n (take (length row - tail_size (length row)) row)) none ∙ front_of row (length row - tail_size (length row)) (head_size (length row)) (sizes_meet (length row)).0)
+  where
+    at : (h : ℕ) → h + 8180 * 0 ≡ h
+    at h = omega arith
+
+pub text_next : (row out new : List ℕ) (k : ℕ) → out ≡ take (head_size (length row) + 8180 * k) (take (length row - tail_size (length row)) row) → new ≡ out ++ blob_of row k
+    → new ≡ take (head_size (length row) + 8180 * (k + 1)) (take (length row - tail_size (length row)) row)
+text_next row out new k was is = is ∙ ap (λ (l : List ℕ). l ++ blob_of row k) was ∙ blob_behind row k
+
+pub text_last : (row out : List ℕ) (k : ℕ) → k ≡ blob_count (length row) → out ≡ take (head_size (length row) + 8180 * k) (take (length row - tail_size (length row)) row) → out ≡ take (length row - tail_size (length row)) row
+text_last row out k count is =
+    is ∙ whole_front row (length row - tail_size (length row)) (head_size (length row) + 8180 * k)
+    (subst (λ (n : ℕ). length row - tail_size (length row) ≤ head_size (length row) + 8180 * n) (sym count) (sizes_meet (length row)).1) (omega arith)
+
+within : (n t left : ℕ) (small : Bool) → left ≤ n → t ≡ cond small left 0 → t ≤ n
+within n t left true le is = omega (arith, le, is)
+within n t left false le is = omega (arith, is)
+
+tail_within : (n : ℕ) → tail_size n ≤ n
+tail_within n = within n (tail_size n) (left_size n) (nat_le (left_size n) 4000) (least (head_size n)) refl
+  where
+    least : (h : ℕ) → (n - h) % 8180 ≤ n
+    least h = omega arith
+
+pub tail_long : (row : List ℕ) → length (tail_of row) ≡ tail_size (length row)
+unfolding tail_of
+tail_long row = let le = tail_within (length row) in let long = length-drop (length row - tail_size (length row)) row in omega (arith, le, long)
+
+-- without a tail nothing is left
+pub no_tail_left : (row out : List ℕ) → tail_size (length row) ≡ 0 → out ≡ take (length row - tail_size (length row)) row → out ≡ row
+no_tail_left row out none is = is ∙ take_past row (length row - tail_size (length row)) (omega (arith, none))
+
+-- a row of what was read before its tail, and the tail
+pub rest_is : {T E : Type 0} (r : Result T E) (row mid out : List ℕ) → mid ≡ take (length row - tail_size (length row)) row → OnOk r (out ≡ mid ++ tail_of row) → OnOk r (out ≡ row)
+rest_is (Ok x) row mid out was is = is ∙ ap (λ (l : List ℕ). l ++ tail_of row) was ∙ tail_behind row
+rest_is (Err e) row mid out was is = tt

@@ -24,6 +24,7 @@ mod part_kind;
 mod placing;
 mod reading;
 mod row_bytes;
+mod row_reading;
 mod row_sizes;
 mod run;
 mod spot;
@@ -32,5 +33,5 @@ mod take;
 
 pub use layout::MAP_EVERY;
 pub use part_kind::PartKind;
+pub use row_reading::read_row;
 pub use storing::insert_row;
-
