@@ -1,7 +1,7 @@
 -- Free pages one after another, looked for.
-use Rattle.std.proofs.Common.{◌≡◌, ◌≢◌, ℕ, ◌+◌, ◌-◌, ◌%◌, ◌<◌, ◌≤◌, Option, Some, None, List, refl, sym, ◌∙◌, arith, subst, inl, inr}
+use Rattle.std.proofs.Common.{◌≡◌, ℕ, ◌+◌, ◌%◌, ◌<◌, ◌≤◌, Option, Some, None, List, refl, sym, arith, subst, inl, inr}
 use Rattle.std.specs.Prelude.{IfSome}
-use Rattle.std.proofs.lemmas.Bool.{cases_eq, cases_lt}
+use Rattle.std.proofs.lemmas.Bool.{cases_eq}
 use Rattle.aria_bitmap.specs.Promise.{IsFreeRun, IsLowest}
 use Rattle.aria_block.specs.DataFile.{map_of, nth_of}
 use Rattle.aria_block.specs.Runs.{FindsRunUnder, NoRunBefore, FindsRun, IsUnderOne}

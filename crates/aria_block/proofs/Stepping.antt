@@ -1,6 +1,6 @@
 -- Calls on a data file behind ones that kept it.
-use Rattle.std.proofs.Common.{rules, ◌≡◌, ℕ, Bool, Option, None, Some, List, refl, sym, ap, ◌∙◌, subst}
-use Rattle.std.specs.Prelude.{IsTrue, IsSome, IfSome}
+use Rattle.std.proofs.Common.{rules, ◌≡◌, ℕ, Bool, Option, None, Some, List, refl, ap, ◌∙◌, subst}
+use Rattle.std.specs.Prelude.{IsSome, IfSome}
 use Rattle.aria_host.specs.declared.fault.Fault.{Fault}
 use Rattle.aria_host.specs.declared.file_name.FileName.{FileName}
 use Rattle.aria_host.specs.declared.file_name.FileName.TheVariants.{Rows}
@@ -8,7 +8,7 @@ use Rattle.aria_cache.specs.PageState.{PageState}
 use Rattle.aria_cache.specs.Calls.{Answers, SameSlots, SameLog}
 use Rattle.aria_cache.specs.Causes.{HasPagesCause}
 use Rattle.aria_block.specs.Causes.{rows_file, OfRows, KeepsSound, HoldsStill}
-use Rattle.aria_block.proofs.Causing.{rows_cause, rows_then}
+use Rattle.aria_block.proofs.Causing.{rows_then}
 
 pub same_rows : (slot : ℕ) (old mid : PageState) → SameSlots old mid → rows_file mid slot ≡ rows_file old slot
 same_rows slot old mid slots = ap (λ (f : ℕ → List ℕ). Rows (f slot)) slots.name

@@ -4,14 +4,14 @@ use Rattle.std.proofs.lemmas.Bool.{cases_Bool, cases_eq, ne_eqb, eqb-true, and_p
 use Rattle.std.specs.Prelude.{is_some}
 use Rattle.aria_page.specs.declared.place.Place.{Place}
 use Rattle.aria_page.specs.declared.place.Places.{Places}
-use Rattle.aria_block.specs.Pieces.{Piece, Head, Tail, Blob, Pieces, head_of, tail_of, blob_of, tail_size, blob_count, is_at, is_at_tail, is_at_blob, is_one_of, piece_of, with_row}
-use Rattle.aria_block.specs.Rows.{Kept, IsLaid}
+use Rattle.aria_block.specs.Pieces.{Piece, Head, Tail, Blob, Pieces, head_of, tail_of, blob_of, tail_size, blob_count, is_at, is_at_tail, is_at_blob, is_one_of, with_row}
+use Rattle.aria_block.specs.Rows.{IsLaid}
 use Rattle.aria_block.specs.DataFile.{HoldsData, on_page, with_piece}
 use Rattle.aria_block.specs.Blob.{blob_pieces}
 use Rattle.aria_block.specs.Runs.{AreFree}
 use Rattle.aria_block.specs.declared.part_kind.PartKind.TheVariants as part
 use Rattle.aria_block.specs.Puts.{PartKept}
-use Rattle.aria_block.specs.Storing.{with_one, with_blobs, with_tail, BlobsPut, TailPut, HeadPut}
+use Rattle.aria_block.specs.Storing.{with_one, with_blobs, with_tail, TailPut, HeadPut}
 
 -- ---- one part more
 

@@ -1,5 +1,5 @@
 -- All pieces of a row, put one after another.
-use Rattle.std.proofs.Common.{◌≡◌, ◌⊎◌, ℕ, ◌+◌, ◌<◌, ◌≤◌, Bool, true, false, nat_lt, Option, Some, None, List, length, refl, sym, ap, ◌∙◌, arith, subst, inl, inr}
+use Rattle.std.proofs.Common.{◌≡◌, ℕ, ◌+◌, ◌≤◌, Bool, Option, None, List, length, refl, sym, ap, ◌∙◌, arith, subst, inl}
 use Rattle.std.specs.Prelude.{IsTrue, Result, Ok, Err, IfOk, OnOk}
 use Rattle.aria_page.specs.declared.place.Place.{Place}
 use Rattle.aria_page.specs.declared.place.Places.{Places}
@@ -7,12 +7,12 @@ use Rattle.aria_host.specs.declared.fault.Fault.{Fault}
 use Rattle.aria_host.specs.declared.file_name.FileName.{FileName}
 use Rattle.aria_cache.specs.PageState.{PageState}
 use Rattle.aria_block.specs.declared.part_kind.PartKind.TheVariants as part
-use Rattle.aria_block.specs.Pieces.{Pieces, head_size, tail_size, blob_count, with_row}
+use Rattle.aria_block.specs.Pieces.{Pieces, head_size, tail_size, blob_count}
 use Rattle.aria_block.specs.Rows.{Rows}
 use Rattle.aria_block.specs.DataFile.{HoldsData}
 use Rattle.aria_block.specs.HoldsRows.{HoldsRows, PutsRow}
 use Rattle.aria_block.specs.Runs.{AreFree, GrowsForRun, GrowsForPart}
-use Rattle.aria_block.specs.Storing.{with_blobs, with_tail, BlobsPut, TailPut, HeadPut, GrowsByNeed, RowPut}
+use Rattle.aria_block.specs.Storing.{with_blobs, with_tail, BlobsPut, TailPut, HeadPut, RowPut}
 use Rattle.aria_block.proofs.Stored.{no_blobs, whole_row, laid, none_before}
 use Rattle.aria_block.proofs.Sizes.{short_row}
 use Rattle.aria_block.proofs.Tiling.{with_one}
@@ -30,11 +30,11 @@ row_put : (row : List ℕ) (places : Places) (pieces : Pieces) (file : FileName)
     → GrownFor row file old mid low → GrowsForPart part.Head (14 + head_size (length row)) file low new → RowPut row places pieces file old new
 row_put row places pieces file old mid low new many blobs tail head grown last =
     let files : HoldsData (mid.counts file) (mid.bodies file) (with_blobs places.blob places.blobs row pieces) =
-        subst (λ (n : ℕ). HoldsData (mid.counts file) (mid.bodies file) (with_blobs places.blob n row pieces)) (sym many) blobs.data_file in
+    subst (λ (n : ℕ). HoldsData (mid.counts file) (mid.bodies file) (with_blobs places.blob n row pieces)) (sym many) blobs.data_file in
     let tails : TailPut row places.tail (low.counts file) (low.bodies file) (with_blobs places.blob places.blobs row pieces) =
-        subst (λ (n : ℕ). TailPut row places.tail (low.counts file) (low.bodies file) (with_blobs places.blob n row pieces)) (sym many) tail in
+    subst (λ (n : ℕ). TailPut row places.tail (low.counts file) (low.bodies file) (with_blobs places.blob n row pieces)) (sym many) tail in
     let heads : HeadPut row places (new.counts file) (new.bodies file) (with_tail places.tail row (with_blobs places.blob places.blobs row pieces)) =
-        subst (λ (n : ℕ). HeadPut row places (new.counts file) (new.bodies file) (with_tail places.tail row (with_blobs places.blob n row pieces))) (sym many) head in
+    subst (λ (n : ℕ). HeadPut row places (new.counts file) (new.bodies file) (with_tail places.tail row (with_blobs places.blob n row pieces))) (sym many) head in
     let are : AreFree places.blobs places.blob pieces = subst (λ (n : ℕ). AreFree n places.blob pieces) (sym many) blobs.free in
     record {
       laid = laid row places pieces heads.free tails.free tails.asked many;
@@ -62,9 +62,9 @@ long_on_ok (Ok places) row blob blobs tail pieces file old mid low new many firs
     row_put row places pieces file old mid low new (is_many ∙ many)
     (subst (λ (b : ℕ). BlobsPut row b (mid.counts file) (mid.bodies file) pieces) (sym at_blob) first)
     (subst (λ (t : Option Place). TailPut row t (low.counts file) (low.bodies file) (with_blobs places.blob (blob_count (length row)) row pieces)) (sym at_tail)
-      (subst (λ (b : ℕ). TailPut row tail (low.counts file) (low.bodies file) (with_blobs b (blob_count (length row)) row pieces)) (sym at_blob) behind))
+    (subst (λ (b : ℕ). TailPut row tail (low.counts file) (low.bodies file) (with_blobs b (blob_count (length row)) row pieces)) (sym at_blob) behind))
     (subst (λ (t : Option Place). HeadPut row places (new.counts file) (new.bodies file) (with_tail t row (with_blobs places.blob (blob_count (length row)) row pieces))) (sym at_tail)
-      (subst (λ (b : ℕ). HeadPut row places (new.counts file) (new.bodies file) (with_tail tail row (with_blobs b (blob_count (length row)) row pieces))) (sym at_blob) head))
+    (subst (λ (b : ℕ). HeadPut row places (new.counts file) (new.bodies file) (with_tail tail row (with_blobs b (blob_count (length row)) row pieces))) (sym at_blob) head))
     grown last
 long_on_ok (Err fault) row blob blobs tail pieces file old mid low new many first behind grown at head last = tt
 

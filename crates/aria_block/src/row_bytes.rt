@@ -41,7 +41,11 @@ pub(crate) fn blob_count(n: usize) -> u32
     ensures few { result ≤ BLOBS_MAX }
 {
     let full = (n.saturating_sub(head_size(n)) / BLOB_ROW) as u32;
-    if left_size(n) <= TAIL_MAX { full } else { full + 1 }
+    if left_size(n) <= TAIL_MAX {
+        full
+    } else {
+        full + 1
+    }
 }
 
 // The bytes of a row's tail.

@@ -20,7 +20,7 @@ returns-clause-holds g c = λ told pieces holds.
     let same : rows_file mid c.args.slot ≡ file = same_rows c.args.slot old mid c.in_ok-first.ensures.slots in
     let are : AreFree n c.in_ok-first.first pieces = subst (λ (k : ℕ). AreFree k c.in_ok-first.first pieces) c.blob_count.ensures.is (c.in_ok-first.ensures.free told pieces holds) in
     let here : HoldsData (mid.counts (rows_file mid c.args.slot)) (mid.bodies (rows_file mid c.args.slot)) pieces =
-        subst (λ (f : FileName). HoldsData (mid.counts f) (mid.bodies f) pieces) (sym same) (c.in_ok-first.ensures.holds told pieces holds) in
+    subst (λ (f : FileName). HoldsData (mid.counts f) (mid.bodies f) pieces) (sym same) (c.in_ok-first.ensures.holds told pieces holds) in
     let with_all : Pieces = with_blobs c.in_ok-first.first n row pieces in
     record {
       free = are;

@@ -1,4 +1,4 @@
-use Rattle.std.proofs.Common.{◌≡◌, ℕ, ◌+◌, Bool, None, List, length, sym, ◌∙◌, arith, subst}
+use Rattle.std.proofs.Common.{◌≡◌, ℕ, ◌+◌, None, List, length, sym, ◌∙◌, arith, subst}
 use Rattle.aria_host.specs.declared.file_name.FileName.{FileName}
 use Rattle.aria_cache.specs.PageState.{PageState, Counts}
 use Rattle.aria_cache.specs.Calls.{StaysIn}
@@ -64,8 +64,8 @@ loop-nth-preserved g c =
       holds = λ told pieces holds are.
           let before : Pieces = with_blobs c.args.first c.loop-nth.nth row pieces in
           let here : HoldsData (now.counts (rows_file now c.args.slot)) (now.bodies (rows_file now c.args.slot)) before =
-              subst (λ (f : FileName). HoldsData (now.counts f) (now.bodies f) before) (sym same)
-              (subst (λ (n : Counts). HoldsData (n file) (now.bodies file) before) (sym was.counts) (was.holds told pieces holds are)) in
+          subst (λ (f : FileName). HoldsData (now.counts f) (now.bodies f) before) (sym same)
+          (subst (λ (n : Counts). HoldsData (n file) (now.bodies file) before) (sym was.counts) (was.holds told pieces holds are)) in
           let behind : Pieces = on_page (c.args.first + c.loop-nth.nth) (blob_pieces c.blob_bytes-in-loop-nth.result.now) before in
           let after : HoldsData (now.counts (rows_file now c.args.slot)) (new.bodies (rows_file now c.args.slot)) behind = next.holds told before here in
           blobs_more (old.counts file) (new.bodies file) c.args.first c.loop-nth.nth (blob_count (length row)) row c.blob_bytes-in-loop-nth.result.now pieces are

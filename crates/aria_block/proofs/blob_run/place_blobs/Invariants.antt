@@ -1,4 +1,4 @@
-use Rattle.std.proofs.Common.{◌≡◌, ◌+◌, ◌-◌, ◌*◌, ◌<◌, ◌≤◌, ℕ, true, None, length}
+use Rattle.std.proofs.Common.{◌≡◌, ◌+◌, ◌-◌, ◌*◌, ◌≤◌, true, None, length}
 use Rattle.std.specs.Prelude.{IsTrue}
 use Rattle.aria_cache.specs.Calls.{Answers, SameSlots, SameLog, StaysIn}
 use Rattle.aria_cache.specs.Causes.{HasPagesCause}

@@ -1,4 +1,4 @@
-use Rattle.std.proofs.Common.{◌≡◌, ℕ, ◌+◌, Bool, None, List, sym, ◌∙◌, arith, subst}
+use Rattle.std.proofs.Common.{◌≡◌, ◌+◌, None, sym, arith, subst}
 use Rattle.aria_host.specs.declared.file_name.FileName.{FileName}
 use Rattle.aria_cache.specs.PageState.{PageState}
 use Rattle.aria_cache.specs.Calls.{StaysIn}

@@ -1,4 +1,4 @@
-use Rattle.std.proofs.Common.{◌≡◌, ◌+◌, ◌-◌, ◌*◌, ◌<◌, ◌≤◌, ℕ, true, None}
+use Rattle.std.proofs.Common.{◌≡◌, ◌+◌, ◌-◌, ◌*◌, ◌≤◌, true, None}
 use Rattle.std.specs.Prelude.{IsTrue}
 use Rattle.aria_cache.specs.Calls.{Answers, SameSlots, SameLog, StaysIn, Grows}
 use Rattle.aria_cache.specs.Causes.{HasPagesCause}

@@ -1,6 +1,5 @@
-use Rattle.std.proofs.Common.{◌≡◌, ℕ, ◌≤◌, List, Some, sym, ap, ◌∙◌, subst}
+use Rattle.std.proofs.Common.{◌≡◌, ◌≤◌, subst}
 use Rattle.std.specs.Prelude.{IfOk}
-use Rattle.aria_page.specs.Page.{page_body, zero_page}
 use Rattle.aria_host.specs.declared.file_name.FileName.{FileName}
 use Rattle.aria_cache.specs.PageState.{PageState, Counts}
 use Rattle.aria_block.specs.Causes.{rows_file}
@@ -28,6 +27,6 @@ returns-clause-free g c = λ told pieces holds.
     let file : FileName = rows_file old c.args.slot in
     let same : rows_file mid c.args.slot ≡ file = same_rows c.args.slot old mid c.in_ok-page.ensures.looks.slots in
     let behind : IfOk c.add_run-2.result (λ page. old.counts file ≤ page) =
-        subst (λ (n : Counts). IfOk c.add_run-2.result (λ page. n file ≤ page)) c.in_ok-page.ensures.looks.counts
-        (subst (λ (f : FileName). IfOk c.add_run-2.result (λ page. mid.counts f ≤ page)) same c.add_run-2.ensures.behind) in
+    subst (λ (n : Counts). IfOk c.add_run-2.result (λ page. n file ≤ page)) c.in_ok-page.ensures.looks.counts
+    (subst (λ (f : FileName). IfOk c.add_run-2.result (λ page. mid.counts f ≤ page)) same c.add_run-2.ensures.behind) in
     past_on_ok c.add_run-2.result c.args.n (old.counts file) (old.bodies file) pieces holds (λ m low. g.met.P.Pages.past c.args.pages.now file m told c.requires.stands low) behind

@@ -1,4 +1,4 @@
-use Rattle.std.proofs.Common.{◌≡◌, ℕ, List, [], ◌∷◌, ◌++◌, length, take, sym, ap, ◌∙◌, append_assoc}
+use Rattle.std.proofs.Common.{◌≡◌, ℕ, List, ◌++◌, length, take, ap, ◌∙◌, append_assoc}
 use Rattle.aria_page.specs.Number.{number}
 use Rattle.aria_block.specs.Pieces.{head_of, tail_bytes, head_size}
 use Rattle.aria_block.proofs.row_bytes.head_bytes.Goals as goal

@@ -1,4 +1,4 @@
-use Rattle.std.proofs.Common.{rules, ◌≡◌, ◌+◌, ◌≤◌, ◌<◌, ◌≢◌, ◌%◌, ℕ, Option, Some, None, subst}
+use Rattle.std.proofs.Common.{rules, ◌≡◌, ◌+◌, ◌≤◌, ℕ, Option, Some, None, subst}
 use Rattle.std.specs.Prelude.{IfSome}
 use Rattle.aria_cache.specs.PageState.{PageState}
 use Rattle.aria_block.specs.Causes.{rows_file}

@@ -11,7 +11,7 @@ use Rattle.aria_block.specs.Runs.{GrowsForPart}
 use Rattle.aria_block.specs.Storing.{with_blobs, with_tail, BlobsPut, TailPut, HeadPut}
 use Rattle.aria_block.proofs.Causing.{rows_cause}
 use Rattle.aria_block.proofs.Sizes.{LongRow, long_row, long_bytes}
-use Rattle.aria_block.proofs.Stepping.{same_rows, rows_step, still_on}
+use Rattle.aria_block.proofs.Stepping.{same_rows, rows_step}
 use Rattle.aria_block.proofs.Whole.{GrownFor, long_on_ok}
 use Rattle.aria_block.proofs.storing.insert_long.Goals as goal
 
@@ -29,12 +29,12 @@ returns-clause-put g c = λ told pieces holds.
     let blobs : BlobsPut row c.in_ok-blob.blob (mid.counts file) (mid.bodies file) pieces = c.in_ok-blob.ensures.holds told pieces holds in
     let first : Pieces = with_blobs c.in_ok-blob.blob n row pieces in
     let tail : TailPut row c.in_ok-tail.tail (low.counts file) (low.bodies file) first =
-        subst (λ (f : FileName). TailPut row c.in_ok-tail.tail (low.counts f) (low.bodies f) first) one
-        (c.in_ok-tail.ensures.holds told first (subst (λ (f : FileName). HoldsData (mid.counts f) (mid.bodies f) first) (sym one) blobs.data_file)) in
+    subst (λ (f : FileName). TailPut row c.in_ok-tail.tail (low.counts f) (low.bodies f) first) one
+    (c.in_ok-tail.ensures.holds told first (subst (λ (f : FileName). HoldsData (mid.counts f) (mid.bodies f) first) (sym one) blobs.data_file)) in
     let second : Pieces = with_tail c.in_ok-tail.tail row first in
     let head : IfOk c.insert_head.result (λ places. HeadPut row places (new.counts file) (new.bodies file) second) =
-        subst (λ (f : FileName). IfOk c.insert_head.result (λ places. HeadPut row places (new.counts f) (new.bodies f) second)) two
-        (c.insert_head.ensures.holds told second (subst (λ (f : FileName). HoldsData (low.counts f) (low.bodies f) second) (sym two) tail.data_file)) in
+    subst (λ (f : FileName). IfOk c.insert_head.result (λ places. HeadPut row places (new.counts f) (new.bodies f) second)) two
+    (c.insert_head.ensures.holds told second (subst (λ (f : FileName). HoldsData (low.counts f) (low.bodies f) second) (sym two) tail.data_file)) in
     let sizes : LongRow (length row) = long_row (length row) c.requires.long c.requires.few in
     let grown : GrownFor row file old mid low = record {
       for_blobs = c.in_ok-blob.ensures.needed told;
@@ -68,7 +68,7 @@ returns-clause-cause g c =
     let still_mid : HoldsStill g.P.Pages.tells file old mid = record { data_file = λ told pieces holds. (with_blobs c.in_ok-blob.blob (blob_count (length row)) row pieces, (c.in_ok-blob.ensures.holds told pieces holds).data_file) } in
     let still_low : HoldsStill g.P.Pages.tells (rows_file mid c.args.slot) mid low = record { data_file = λ told pieces holds. (with_tail c.in_ok-tail.tail row pieces, (c.in_ok-tail.ensures.holds told pieces holds).data_file) } in
     let last = rows_step g.P.Pages.tells g.P.Pages.logged c.args.slot mid low new _ c.in_ok-tail.ensures.slots c.in_ok-tail.ensures.keeps still_low
-        c.in_ok-tail.ensures.cause c.in_ok-tail.ensures.answers.keeps c.insert_head.ensures.cause in
+    c.in_ok-tail.ensures.cause c.in_ok-tail.ensures.answers.keeps c.insert_head.ensures.cause in
     rows_step g.P.Pages.tells g.P.Pages.logged c.args.slot old mid new _ c.in_ok-blob.ensures.slots c.in_ok-blob.ensures.keeps still_mid
     (rows_cause g.P.Pages.tells g.P.Pages.logged file old mid None c.in_ok-blob.ensures.cause) c.in_ok-blob.ensures.answers.keeps last
 

@@ -1,4 +1,3 @@
-use Rattle.std.proofs.Common.{◌≡◌, ℕ, List}
 use Rattle.aria_cache.specs.PageState.{PageState}
 use Rattle.aria_block.specs.Causes.{rows_file}
 use Rattle.aria_block.proofs.Whole.{puts_row}
