@@ -10,8 +10,7 @@ use Rattle.aria_host.specs.declared.file_name.FileName.{FileName}
 use Rattle.aria_host.specs.Count.{Rose}
 use Rattle.aria_record.specs.Groups.{PlacesFit}
 use Rattle.aria_cache.specs.PageState.{PageState}
-use Rattle.aria_block.specs.declared.layout.TheConstants.{HEAD_FIELDS}
-use Rattle.aria_block.specs.declared.row_sizes.TheConstants.{ROW_MAX}
+use Rattle.aria_block.specs.declared.layout.TheConstants.{HEAD_FIELDS, ROW_MAX}
 use Rattle.aria_block.specs.declared.head_fields.HeadFields.{HeadFields}
 use Rattle.aria_block.specs.declared.head_fields.HeadNumbers.{HeadNumbers}
 use Rattle.aria_block.specs.declared.part_kind.PartKind.{PartKind}

@@ -6,8 +6,8 @@ ghost use Rattle.aria_block.specs.Pieces.{head_of};
 ghost use Rattle.aria_block.specs.Rows.{Kept, IsLaid};
 ghost use Rattle.aria_block.specs.Reading.{FitsHead, HasNumbers, InRange, IsHead, IsHeadOf, FieldsOf};
 
-use crate::layout::HEAD_FIELDS;
-use crate::row_sizes::{ROW_MAX, blob_count, head_size, tail_size};
+use crate::layout::{HEAD_FIELDS, ROW_MAX};
+use crate::row_sizes::{blob_count, head_size, tail_size};
 use aria_page::{Place, bytes_from, u32_of};
 
 /// The numbers in front of a head's row bytes.

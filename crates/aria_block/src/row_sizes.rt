@@ -1,13 +1,10 @@
 //! How many bytes of a row go where.
 
 ghost use Rattle.std.specs.Prelude.{◌≡◌, ◌≤◌, ℕ, List, length};
-ghost use Rattle.aria_block.specs.declared.layout.TheConstants.{BLOB_ROW as BlobRow};
+ghost use Rattle.aria_block.specs.declared.layout.TheConstants.{BLOB_ROW as BlobRow, ROW_MAX};
 ghost use Rattle.aria_block.specs.Pieces.{head_size, left_size, tail_size, blob_count, blob_of};
 
 use crate::layout::{BLOB_ROW, HEAD_ROW, TAIL_MAX, WHOLE_MAX};
-
-/// The most bytes of a row.
-pub const ROW_MAX: usize = 65_540;
 
 /// How many row bytes a head has.
 pub(crate) fn head_size(len: usize) -> usize
