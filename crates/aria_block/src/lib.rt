@@ -35,3 +35,6 @@ pub use layout::MAP_EVERY;
 pub use part_kind::PartKind;
 pub use row_reading::read_row;
 pub use storing::insert_row;
+
+#[cfg(test)]
+mod tests;

@@ -1,0 +1,111 @@
+ghost use Rattle.std.specs.Prelude.{◌≡◌, ◌≤◌, ◌^◌, false, length};
+ghost use Rattle.aria_block.specs.declared.layout.TheConstants.{ROW_MAX};
+ghost use Rattle.aria_cache.specs.MemPages.{MemStands};
+
+use crate::storing::insert_row;
+use aria_bitmap::entry;
+use aria_cache::{MemPages, PageId, Pages, RowFault};
+use aria_host::{Fault, FileName};
+use aria_page::{Part, Place, Places};
+use std::alloc::Global;
+use std::test::*;
+
+/// How a row is stored: the bytes of its head, those of its tail, and its blob pages.
+#[derive(Clone, Copy, Debug, PartialEq, Eq)]
+struct Shape {
+    head: u32,
+    tail: u32,
+    blobs: u8,
+}
+
+// Puts a row.
+fn put(alloc: Global, pages: &mut MemPages, row: &[u8]) -> Result<Places, RowFault>
+    requires stands { MemStands pages.old }
+    requires none { pages.old.in_group ≡ false }
+    requires few { length row.now ≤ ROW_MAX }
+    ensures stands { MemStands pages.new }
+{
+    let _file = FileName::Control;
+    let mut group = pages.group();
+    let answer = insert_row(alloc, pages, &mut group, 0, row);
+    group.spend();
+    answer
+}
+
+// The length of the part at a place.
+fn part_len(alloc: Global, pages: &mut MemPages, place: Place) -> Result<u32, Fault>
+    requires stands { MemStands pages.old }
+    ensures stands { MemStands pages.new }
+{
+    let _file = FileName::Control;
+    if place.page >= pages.count(0, Part::Rows) || place.slot == 255 {
+        return Ok(0);
+    }
+    pages.load(
+        alloc,
+        PageId {
+            slot: 0,
+            part: Part::Rows,
+            page: place.page,
+        },
+    )?;
+    Ok(entry(pages.loaded().body(), place.slot) % 65536)
+}
+
+// How a row of so many bytes is stored; `None` after a fault.
+fn shape_of(alloc: Global, len: usize) -> Option<Shape>
+    requires { len ≤ ROW_MAX }
+{
+    let Ok(row) = vec![in alloc; 7u8; len] else {
+        return None;
+    };
+    let mut pages = MemPages::new(alloc);
+    let Ok(places) = put(alloc, &mut pages, row.as_slice()) else {
+        return None;
+    };
+    let Ok(head) = part_len(alloc, &mut pages, places.head) else {
+        return None;
+    };
+    let tail = match places.tail {
+        None => 0,
+        Some(place) => match part_len(alloc, &mut pages, place) {
+            Err(_) => return None,
+            Ok(tail) => tail,
+        },
+    };
+    Some(Shape {
+        head,
+        tail,
+        blobs: places.blobs,
+    })
+}
+
+#[test]
+fn rows_are_divided(rt: HostRuntime) -> Result<(), Fail> {
+    let alloc = rt.alloc();
+    assert!(rt;
+        shape_of(alloc, 5_986)
+            == Some(Shape {
+                head: 6_000,
+                tail: 0,
+                blobs: 0
+            })
+    );
+    assert!(rt;
+        shape_of(alloc, 5_987)
+            == Some(Shape {
+                head: 2_000,
+                tail: 0,
+                blobs: 1
+            })
+    );
+    assert!(rt;
+        shape_of(alloc, 14_166)
+            == Some(Shape {
+                head: 2_000,
+                tail: 4_000,
+                blobs: 1
+            })
+    );
+    Ok(())
+}
