@@ -45,8 +45,8 @@ impl LeafReader {
         Bytes::from_vec(entry)
     }
 
-    /// Reads the next item of the leaf, and goes behind it: gives its target. `None` where there is none. Only the entry may
-    /// take memory, where it is longer than all that were read before.
+    /// Reads the next item of a leaf that has one more, and goes behind it: gives its target. `None` where the bytes run
+    /// out. Only the entry may take memory, where it is longer than all that were read before.
     pub fn read(&mut self, page: &Page) -> Result<Option<u64>, AllocError>
         ensures { (c : Content) → (at : ℕ) → Spells (page_body page.now) c → c.kind ≡ Leaf → at < length c.items → IsBefore c at self.old → IfOk result (λ r. Reads c at r self.new) }
     {
