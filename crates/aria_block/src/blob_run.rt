@@ -1,7 +1,7 @@
-ghost use Rattle.std.specs.Prelude.{◌≡◌, ◌≢◌, ◌+◌, ◌-◌, ◌*◌, ◌%◌, ◌^◌, ◌<◌, ◌≤◌, Some, true, IsTrue, IfOk, OnOk, length};
+ghost use Rattle.std.specs.Prelude.{◌≡◌, ◌+◌, ◌-◌, ◌*◌, ◌^◌, ◌<◌, ◌≤◌, true, IsTrue, IfOk, OnOk, length};
 ghost use Rattle.aria_cache.specs.Calls.{fault_of, Answers, Spends, StaysIn, SameSlots, SameLog, Grows};
 ghost use Rattle.aria_cache.specs.Causes.{HasPagesCause};
-ghost use Rattle.aria_block.specs.declared.layout.TheConstants.{MAP_EVERY, ROW_MAX, WHOLE_MAX};
+ghost use Rattle.aria_block.specs.declared.layout.TheConstants.{ROW_MAX, WHOLE_MAX};
 ghost use Rattle.aria_block.specs.Causes.{rows_file, OfFile, KeepsSound};
 ghost use Rattle.aria_block.specs.Pieces.{Pieces, blob_count};
 ghost use Rattle.aria_block.specs.DataFile.{HoldsData};

@@ -1,4 +1,4 @@
-ghost use Rattle.std.specs.Prelude.{◌≡◌, ◌≢◌, ◌+◌, ◌-◌, ◌*◌, ◌%◌, ◌^◌, ◌<◌, ◌≤◌, Some, true, IsTrue, IfOk, OnOk};
+ghost use Rattle.std.specs.Prelude.{◌≡◌, ◌+◌, ◌-◌, ◌%◌, ◌^◌, ◌<◌, ◌≤◌, Some, true, IsTrue, IfOk, OnOk};
 ghost use Rattle.aria_cache.specs.Calls.{fault_of, Answers, Spends, StaysIn, SameSlots, SameLog, Grows};
 ghost use Rattle.aria_cache.specs.Causes.{HasPagesCause};
 ghost use Rattle.aria_block.specs.declared.layout.TheConstants.{MAP_EVERY};
@@ -35,8 +35,8 @@ fn run_start(count: u32, n: u32) -> u32
     count - nth + MAP_EVERY + 1
 }
 
-/// Makes the file longer until its last pages, as many as are told, are free pages under one bitmap page. Tells the number of the first of
-/// them.
+/// Makes the file longer until its last pages, as many as are told, are free pages under one bitmap page. Tells the number
+/// of the first of them.
 pub(crate) fn add_run<P: Pages>(
     alloc: Global,
     pages: &mut P,

@@ -1,4 +1,4 @@
-ghost use Rattle.std.specs.Prelude.{◌≡◌, ◌≢◌, ◌+◌, ◌-◌, ◌%◌, ◌^◌, ◌<◌, ◌≤◌, ℕ, List, Some, true, IsTrue, IfOk, IfSome};
+ghost use Rattle.std.specs.Prelude.{◌≡◌, ◌+◌, ◌-◌, ◌%◌, ◌^◌, ◌<◌, ◌≤◌, ℕ, List, Some, IsTrue, IfOk, IfSome};
 ghost use Rattle.aria_page.specs.Page.{page_body};
 ghost use Rattle.aria_cache.specs.Calls.{fault_of, Answers};
 ghost use Rattle.aria_cache.specs.Causes.{HasPagesCause};

@@ -1,17 +1,17 @@
-ghost use Rattle.std.specs.Prelude.{◌≡◌, ◌≢◌, ◌+◌, ◌-◌, ◌*◌, ◌^◌, ◌<◌, ◌≤◌, ℕ, Bool, List, Some, None, true, IsTrue, IfOk, OnOk, length};
+ghost use Rattle.std.specs.Prelude.{◌≡◌, ◌+◌, ◌-◌, ◌^◌, ◌<◌, ◌≤◌, ℕ, Bool, List, Some, None, true, IsTrue, IfOk, OnOk, length};
 ghost use Rattle.aria_cache.specs.Calls.{fault_of, Answers, Spends, StaysIn, SameSlots, SameLog, Grows};
 ghost use Rattle.aria_cache.specs.Causes.{HasPagesCause};
 ghost use Rattle.aria_cache.specs.RowFaults.{row_fault_of, IsFull};
 ghost use Rattle.aria_block.specs.declared.layout.TheConstants.{ROW_MAX, WHOLE_MAX, HEAD_FIELDS};
 ghost use Rattle.aria_block.specs.declared.part_kind.PartKind.TheVariants as part;
-ghost use Rattle.aria_block.specs.Causes.{rows_file, OfRows, KeepsSound, HoldsStill};
+ghost use Rattle.aria_block.specs.Causes.{rows_file, OfRows, KeepsSound};
 ghost use Rattle.aria_block.specs.Pieces.{Pieces, head_size, tail_size, blob_count};
 ghost use Rattle.aria_block.specs.Rows.{Rows};
 ghost use Rattle.aria_block.specs.DataFile.{HoldsData};
 ghost use Rattle.aria_block.specs.HoldsRows.{HoldsRows, PutsRow};
 ghost use Rattle.aria_block.specs.Finding.{Looks};
 ghost use Rattle.aria_block.specs.Runs.{GrowsForPart};
-ghost use Rattle.aria_block.specs.Storing.{TailPut, HeadPut, GrowsByNeed, RowPut, TellsFull};
+ghost use Rattle.aria_block.specs.Storing.{TailPut, HeadPut, RowPut, TellsFull};
 
 use crate::blob_run::insert_blobs;
 use crate::inserting::insert_part;
@@ -183,8 +183,8 @@ fn insert_pieces<P: Pages>(
     insert_head(alloc, pages, group, slot, row, None, 0, 0)
 }
 
-/// Puts a row into a data file, and tells where its pieces stand. The blob pages are put first, then the tail, then the head; a page's
-/// pattern is set at once. The file grows only where no bitmap page promises the room.
+/// Puts a row into a data file, and tells where its pieces stand: the blob pages first, then the tail, then the head. The
+/// pattern of each page is set at once. The file grows only where no bitmap page promises the room.
 pub fn insert_row<P: Pages>(
     alloc: Global,
     pages: &mut P,
@@ -205,13 +205,14 @@ pub fn insert_row<P: Pages>(
     ensures spends { Spends 40 52 (length row.now + 10000) (P.state pages.old) (P.state pages.new) }
     ensures rows { IsTrue P.tells → (is_row : List ℕ → Bool) (pieces : Pieces) (rows : Rows) → HoldsRows is_row ((P.state pages.old).counts (rows_file (P.state pages.old) slot)) ((P.state pages.old).bodies (rows_file (P.state pages.old) slot)) pieces rows → IsTrue (is_row row.now)
         → IfOk result (λ places. PutsRow is_row places row.now ((P.state pages.new).counts (rows_file (P.state pages.old) slot)) ((P.state pages.new).bodies (rows_file (P.state pages.old) slot)) pieces rows) }
-    ensures needed { IsTrue P.tells → (pieces : Pieces) → HoldsData ((P.state pages.old).counts (rows_file (P.state pages.old) slot)) ((P.state pages.old).bodies (rows_file (P.state pages.old) slot)) pieces
-        → IfOk result (λ places. GrowsByNeed row.now places pieces (rows_file (P.state pages.old) slot) (P.state pages.old) (P.state pages.new)) }
+    ensures put { IsTrue P.tells → (pieces : Pieces) → HoldsData ((P.state pages.old).counts (rows_file (P.state pages.old) slot)) ((P.state pages.old).bodies (rows_file (P.state pages.old) slot)) pieces
+        → IfOk result (λ places. RowPut row.now places pieces (rows_file (P.state pages.old) slot) (P.state pages.old) (P.state pages.new)) }
     ensures full { TellsFull ((P.state pages.old).counts (rows_file (P.state pages.old) slot)) result }
     ensures still { IsFull ((P.state pages.old).counts (rows_file (P.state pages.old) slot)) → Looks P.tells (P.state pages.old) (P.state pages.new) }
     ensures count { OnOk result ((P.state pages.new).counts (rows_file (P.state pages.old) slot) ≤ (P.state pages.old).counts (rows_file (P.state pages.old) slot) + 20) }
     ensures inside { IsTrue P.tells → OnOk result (StaysIn P.logged (rows_file (P.state pages.old) slot) (P.state pages.old) (P.state pages.new)) }
     ensures grows { OnOk result (Grows (P.state pages.old) (P.state pages.new)) }
+    ensures keeps { OnOk result (KeepsSound P.tells (rows_file (P.state pages.old) slot) (P.state pages.old) (P.state pages.new)) }
     ensures answers { Answers (P.state pages.old) (P.state pages.new) (row_fault_of result) }
     ensures cause { HasPagesCause (OfRows P.tells P.logged (rows_file (P.state pages.old) slot) (P.state pages.old) (P.state pages.new)) (P.state pages.old) (P.state pages.new) (row_fault_of result) }
 {

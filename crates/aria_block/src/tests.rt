@@ -1,4 +1,4 @@
-ghost use Rattle.std.specs.Prelude.{◌≡◌, ◌≤◌, ◌^◌, false, length};
+ghost use Rattle.std.specs.Prelude.{◌≡◌, ◌≤◌, false, length};
 ghost use Rattle.aria_block.specs.declared.layout.TheConstants.{ROW_MAX};
 ghost use Rattle.aria_cache.specs.MemPages.{MemStands};
 

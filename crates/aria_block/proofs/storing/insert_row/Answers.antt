@@ -9,5 +9,5 @@ returns-clause-rows g c = λ told is_row pieces rows holds is.
     let new : PageState = g.P.Pages.state c.insert_pieces.new.pages in
     puts_row is_row c.args.row.now c.in_ok-places.places pieces rows (rows_file old c.args.slot) old new holds is (c.in_ok-places.ensures.put told pieces holds.data_file)
 
-pub returns-clause-needed : goal.returns-clause-needed
-returns-clause-needed g c = λ told pieces holds. (c.in_ok-places.ensures.put told pieces holds).needed
+pub returns-clause-put : goal.returns-clause-put
+returns-clause-put g c = c.in_ok-places.ensures.put
