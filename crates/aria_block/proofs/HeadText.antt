@@ -1,21 +1,20 @@
 -- The numbers of a head.
-use Rattle.std.proofs.Common.{◌≡◌, ◌≢◌, ℕ, zero, suc, ◌+◌, ◌-◌, ◌^◌, ◌≤◌, ◌<◌, Bool, true, false, cond, inl, inr, Option, Some, None, List, [], ◌∷◌, ◌++◌, length, take, drop, get_or, refl, sym, ap, ◌∙◌, arith, subst, length-append, append_assoc, drop-cons}
-use Rattle.std.specs.Prelude.{slice_index, nat_lt, is_some, IsTrue, MatchOption}
-use Rattle.std.proofs.lemmas.Bool.{cases_Bool}
+use Rattle.std.proofs.Common.{◌≡◌, ℕ, suc, ◌+◌, ◌^◌, ◌≤◌, ◌<◌, Bool, true, false, cond, Option, Some, None, List, ◌++◌, length, take, drop, refl, sym, ap, ◌∙◌, arith, subst, length-append, append_assoc, drop-cons}
+use Rattle.std.specs.Prelude.{slice_index, nat_lt, is_some, MatchOption}
 use Rattle.std.proofs.lemmas.Bool.Decides.{nat_tests}
 use Rattle.std.proofs.lemmas.List.{drop_at, drop-drop, length-drop, length-take}
 use Rattle.aria_page.specs.Field.{AreBytes}
-use Rattle.aria_page.specs.Number.{number, number_of, number_at}
+use Rattle.aria_page.specs.Number.{number, number_of}
 use Rattle.aria_page.specs.declared.place.Place.{Place}
 use Rattle.aria_page.specs.declared.place.Places.{Places}
 use Rattle.aria_page.proofs.Fields.{AreBytes-drop}
 use Rattle.aria_page.proofs.Numbers.{length-number, number-one, number_of-number, number_takes, number_long}
-use Rattle.aria_record.specs.Groups.{PlaceFits, PlacesFit, TailFits}
+use Rattle.aria_record.specs.Groups.{TailFits}
 use Rattle.aria_block.specs.declared.head_fields.HeadFields.{HeadFields}
 use Rattle.aria_block.specs.declared.head_fields.HeadNumbers.{HeadNumbers}
 use Rattle.aria_block.specs.Pieces.{head_size, tail_size, blob_count, tail_bytes, head_of}
 use Rattle.aria_block.specs.Rows.{Kept, IsLaid}
-use Rattle.aria_block.specs.Reading.{FitsHead, HasNumbers, InRange, IsHead, AreFit, tail_in, FieldsOf, IsHeadOf}
+use Rattle.aria_block.specs.Reading.{FitsHead, HasNumbers, InRange, IsHead, AreFit, FieldsOf, IsHeadOf}
 use Rattle.aria_block.proofs.Measuring.{head_within}
 
 -- ---- numbers that are read spell the bytes

@@ -1,5 +1,5 @@
 -- How many bytes of a row lie on its blob pages.
-use Rattle.std.proofs.Common.{◌≡◌, ℕ, ◌+◌, ◌-◌, ◌*◌, ◌/◌, ◌%◌, ◌≤◌, ◌<◌, min, Bool, true, false, cond, nat_le, inl, inr, List, ◌++◌, length, take, drop, refl, sym, ap, ◌∙◌, arith, subst, take-add}
+use Rattle.std.proofs.Common.{◌≡◌, ℕ, ◌+◌, ◌-◌, ◌*◌, ◌/◌, ◌%◌, ◌≤◌, min, Bool, true, false, cond, nat_le, inl, inr, List, ◌++◌, length, take, drop, refl, sym, ap, ◌∙◌, arith, subst, take-add}
 use Rattle.std.specs.Prelude.{Result, Ok, Err, OnOk}
 use Rattle.std.proofs.lemmas.Bool.{cases_Bool}
 use Rattle.std.proofs.lemmas.Bool.Decides.{nat_tests}

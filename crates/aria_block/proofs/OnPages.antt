@@ -1,16 +1,15 @@
 -- What stands on a page that was read.
-use Rattle.std.proofs.Common.{◌≡◌, ◌≢◌, inl, inr, ℕ, zero, suc, ◌+◌, ◌%◌, ◌<◌, ◌≤◌, Bool, true, false, Option, Some, None, List, ◌++◌, length, take, drop, refl, sym, ap, ◌∙◌, arith, subst}
+use Rattle.std.proofs.Common.{◌≡◌, ◌≢◌, inl, inr, ℕ, ◌%◌, ◌<◌, true, false, Option, Some, None, List, ◌++◌, length, take, drop, refl, sym, ap, ◌∙◌, arith, subst}
 use Rattle.std.specs.Prelude.{slice_index}
 use Rattle.std.specs.Option.{option_map}
 use Rattle.std.proofs.lemmas.Bool.{cases_eq}
 use Rattle.std.proofs.lemmas.Option.{same_Some}
 use Rattle.aria_page.specs.Page.{page_body, zero_page}
-use Rattle.aria_page.specs.declared.place.Place.{Place}
 use Rattle.aria_block.specs.declared.head_fields.HeadFields.{HeadFields}
 use Rattle.aria_block.specs.declared.part_kind.PartKind.{PartKind}
 use Rattle.aria_block.specs.declared.part_kind.PartKind.TheVariants as part
 use Rattle.aria_block.specs.Pieces.{Piece, Pieces, Head, Tail, Blob, head_of}
-use Rattle.aria_block.specs.PartPage.{window, Items, part_in, part_byte, part_piece, IsPartPage}
+use Rattle.aria_block.specs.PartPage.{window, part_in, part_byte, part_piece}
 use Rattle.aria_block.specs.DataFile.{HoldsPage, free, parts, blob, HoldsData}
 use Rattle.aria_block.specs.Reading.{IsPartAt, CopiesHead, CopiesTail, CopiesBlob, ReadsHead, HasHead, HasTail, HasBlob}
 use Rattle.aria_block.proofs.Spots.{part_byte-some}

@@ -1,23 +1,17 @@
 -- Where the parts of a page lie.
-use Rattle.std.proofs.Common.{◌≡◌, ◌≢◌, inl, inr, ℕ, ◌+◌, ◌*◌, ◌-◌, ◌<◌, ◌≤◌, Option, Some, None, List, ◌∷◌, ◌++◌, length, take, drop, refl, sym, ap, ◌∙◌, arith, subst, length-append}
+use Rattle.std.proofs.Common.{◌≡◌, ℕ, ◌+◌, ◌*◌, ◌<◌, ◌≤◌, Option, Some, None, List, ◌∷◌, ◌++◌, length, take, drop, refl, sym, ap, ◌∙◌, arith, subst, length-append}
 use Rattle.std.specs.Prelude.{slice_index}
 use Rattle.std.proofs.lemmas.Option.{same_Some}
-use Rattle.aria_page.specs.Number.{number_of}
 use Rattle.aria_bitmap.specs.Code.{entry}
 use Rattle.aria_block.specs.declared.part_kind.PartKind.{PartKind}
-use Rattle.aria_block.specs.declared.part_kind.PartKind.TheVariants as part
 use Rattle.aria_block.specs.PartPage.{window, Items, text, part_in, part_byte, IsPartPage}
-use Rattle.aria_block.specs.Cut.{Lies}
-use Rattle.aria_block.specs.Rows.{Kept, IsLaid}
-use Rattle.aria_block.specs.Pieces.{head_of}
-use Rattle.aria_block.specs.Reading.{IsPartAt, PartAt, FitsHead, CopiesHead, CopiesTail}
+use Rattle.aria_block.specs.Reading.{IsPartAt}
 use Rattle.std.proofs.lemmas.List.{drop-drop, take-take, drop-take, drop_at, take_at}
 use Rattle.aria_block.proofs.Windows.{length-window}
 use Rattle.aria_block.proofs.Placed.{head_says}
 use Rattle.aria_block.proofs.Spots.{part_byte-fits}
 use Rattle.aria_block.proofs.Items.{entry_none, text-append}
-use Rattle.aria_block.proofs.Taken.{Stands, stands}
-use Rattle.aria_block.proofs.Cutting.{Around}
+use Rattle.aria_block.proofs.Taken.{stands}
 
 -- the bytes of a part among others
 among : (front bytes back body : List ℕ) → window 4 (length (front ++ (bytes ++ back))) body ≡ front ++ (bytes ++ back) → window (4 + length front) (length bytes) body ≡ bytes

@@ -1,17 +1,14 @@
 -- Pages of a data file that are read one after another.
-use Rattle.std.proofs.Common.{◌≡◌, ◌≢◌, ℕ, zero, suc, ◌+◌, ◌%◌, ◌<◌, ◌≤◌, Bool, true, false, cond, Option, Some, None, List, ◌++◌, length, take, drop, refl, sym, ap, ◌∙◌, arith, subst}
-use Rattle.std.specs.Prelude.{IsTrue, IsSome, IfSome, unwrap_or, slice_index, Result, Ok, Err, OnOk}
-use Rattle.std.specs.Option.{option_map}
-use Rattle.std.proofs.lemmas.Option.{same_Some}
-use Rattle.aria_page.specs.Page.{page_body, zero_page}
+use Rattle.std.proofs.Common.{◌≡◌, ℕ, ◌+◌, ◌≤◌, Bool, Option, Some, None, List, refl, sym, ap, ◌∙◌, arith, subst}
+use Rattle.std.specs.Prelude.{IsTrue, IsSome, IfSome, unwrap_or}
 use Rattle.aria_host.specs.declared.fault.Fault.{Fault}
 use Rattle.aria_host.specs.declared.fault.Fault.TheVariants.{Memory, Disk, PageDamaged, LogDamaged}
 use Rattle.aria_host.specs.declared.file_name.FileName.{FileName}
 use Rattle.aria_host.specs.declared.file_name.FileName.TheVariants as of_file
 use Rattle.aria_host.specs.Count.{Rose}
 use Rattle.aria_cache.specs.PageState.{PageState, Bodies, Counts}
-use Rattle.aria_cache.specs.Calls.{Rests, Loads, Answers, Stops, SameSlots}
-use Rattle.aria_cache.specs.Causes.{OfPage, HasPagesCause}
+use Rattle.aria_cache.specs.Calls.{Loads, Answers, Stops}
+use Rattle.aria_cache.specs.Causes.{HasPagesCause}
 use Rattle.aria_cache.proofs.Causing.{cause_weaker}
 use Rattle.aria_cache.proofs.Growing.{fewer_on, fewer_same}
 use Rattle.aria_block.specs.Causes.{rows_file}

@@ -1,15 +1,14 @@
 -- The pieces of a row that has its head at a place.
-use Rattle.std.proofs.Common.{◌≡◌, ℕ, ◌+◌, ◌-◌, ◌<◌, ◌≤◌, ◌==◌, ◌&&◌, ◌||◌, ◌⊎◌, nat_le, nat_lt, inl, inr, Bool, true, false, cond, Option, Some, None, List, [], ◌++◌, length, take, drop, refl, sym, ap, ◌∙◌, arith, subst, eq-eqb}
+use Rattle.std.proofs.Common.{◌≡◌, ℕ, ◌+◌, ◌-◌, ◌<◌, ◌==◌, ◌||◌, ◌⊎◌, nat_le, nat_lt, inl, inr, Bool, true, false, Option, Some, None, List, [], ◌++◌, length, take, drop, refl, sym, ap, ◌∙◌, arith, subst, eq-eqb}
 use Rattle.std.specs.Prelude.{is_some}
 use Rattle.std.proofs.lemmas.Bool.{cases_Bool, and_parts, eqb-true}
 use Rattle.std.proofs.lemmas.Bool.Decides.{nat_tests}
-use Rattle.std.proofs.lemmas.Option.{same_Some}
 use Rattle.aria_page.specs.declared.place.Place.{Place}
 use Rattle.aria_page.specs.declared.place.Places.{Places}
 use Rattle.aria_block.specs.declared.head_fields.HeadFields.{HeadFields}
-use Rattle.aria_block.specs.Pieces.{Piece, Head, Tail, Blob, Pieces, is_at, is_at_tail, is_at_blob, is_one_of, piece_of, head_of, tail_of, blob_of, head_size, tail_size}
+use Rattle.aria_block.specs.Pieces.{Head, Tail, Blob, Pieces, is_at, is_at_tail, is_at_blob, is_one_of, piece_of, head_of, tail_of, blob_of, head_size}
 use Rattle.aria_block.specs.Rows.{Kept, IsLaid, Rows, IsTiled}
-use Rattle.aria_block.specs.Reading.{FitsHead, IsHeadOf, ReadsHead, HasHead, HasBlobs, HasRest, HasRow, ReadsRow}
+use Rattle.aria_block.specs.Reading.{FitsHead, IsHeadOf, ReadsHead, HasHead, HasRest, ReadsRow}
 use Rattle.aria_block.proofs.Tiling.{head_is_one}
 use Rattle.aria_block.proofs.HeadText.{head_rest}
 

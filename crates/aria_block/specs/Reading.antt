@@ -1,5 +1,5 @@
 -- Rows that are read.
-use Rattle.std.specs.Prelude.{◌≡◌, ◌≢◌, ⊤, ℕ, ◌+◌, ◌-◌, ◌^◌, ◌<◌, ◌≤◌, Bool, true, false, IsTrue, nat_lt, if◌then◌else◌, is_some, List, ◌++◌, length, take, drop, slice_index, Option, Some, None}
+use Rattle.std.specs.Prelude.{◌≡◌, ◌≢◌, ⊤, ℕ, ◌+◌, ◌^◌, ◌<◌, ◌≤◌, Bool, true, false, IsTrue, nat_lt, if◌then◌else◌, is_some, List, ◌++◌, length, drop, slice_index, Option, Some, None}
 use Rattle.aria_page.specs.declared.page.TheConstants.{BODY_BYTES}
 use Rattle.aria_page.specs.declared.place.Place.{Place}
 use Rattle.aria_page.specs.declared.place.Places.{Places}
@@ -17,7 +17,7 @@ use Rattle.aria_block.specs.declared.part_kind.PartKind.{PartKind}
 use Rattle.aria_block.specs.declared.part_kind.PartKind.TheVariants as part
 use Rattle.aria_page.specs.declared.page_kind.PageKind.TheVariants as page
 use Rattle.aria_page.specs.PageKind.{kind_byte}
-use Rattle.aria_block.specs.Pieces.{Piece, Head, Tail, Blob, Pieces, head_size, tail_size, blob_count, tail_bytes, head_of, blob_of, tail_of}
+use Rattle.aria_block.specs.Pieces.{Head, Tail, Blob, Pieces, head_size, tail_size, blob_count, tail_bytes, head_of, blob_of, tail_of}
 use Rattle.aria_block.specs.PartPage.{window, Items, part_in, part_byte, IsPartPage}
 use Rattle.aria_block.specs.DataFile.{HoldsData}
 use Rattle.aria_block.specs.Rows.{Kept, IsLaid, Rows, IsTiled}

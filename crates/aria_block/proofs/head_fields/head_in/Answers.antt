@@ -1,4 +1,4 @@
-use Rattle.std.proofs.Common.{◌≡◌, ◌∙◌, ◌+◌, ◌-◌, ℕ, length, ap, arith}
+use Rattle.std.proofs.Common.{◌≡◌, ◌-◌, length, ap, arith}
 use Rattle.aria_block.specs.Pieces.{head_size}
 use Rattle.aria_block.proofs.HeadText.{head_long, numbers_of, row_of}
 use Rattle.aria_block.proofs.head_fields.head_in.Goals as goal

@@ -1,4 +1,4 @@
-use Rattle.std.proofs.Common.{◌≡◌, List, ℕ, sym, ◌∙◌, subst}
+use Rattle.std.proofs.Common.{List, ℕ, sym, ◌∙◌, subst}
 use Rattle.aria_block.specs.declared.part_kind.PartKind.TheVariants.{Tail}
 use Rattle.aria_block.specs.Reading.{IsPartAt}
 use Rattle.aria_block.proofs.PartsAt.{part_long}

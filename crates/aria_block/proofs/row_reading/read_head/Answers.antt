@@ -1,10 +1,9 @@
-use Rattle.std.proofs.Common.{◌≡◌, ◌∙◌, ◌+◌, ℕ, Some, None, List, refl, sym, ap, subst, arith}
-use Rattle.std.specs.Prelude.{◌++◌}
+use Rattle.std.proofs.Common.{◌≡◌, ◌∙◌, Some, None, sym, ap, arith}
 use Rattle.aria_host.specs.declared.file_name.FileName.{FileName}
 use Rattle.aria_cache.specs.PageState.{PageState}
 use Rattle.aria_page.specs.Page.{page_body}
 use Rattle.aria_block.specs.Causes.{rows_file}
-use Rattle.aria_block.specs.Reading.{OfPieces, HasHead, CopiesHead}
+use Rattle.aria_block.specs.Reading.{OfPieces, HasHead}
 use Rattle.aria_block.proofs.ReadPages.{went, cause_first, cause_found}
 use Rattle.aria_block.proofs.OnPages.{none_past, reads_head, no_head}
 use Rattle.aria_block.proofs.row_reading.read_head.Goals as goal

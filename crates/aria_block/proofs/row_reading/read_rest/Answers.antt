@@ -1,8 +1,7 @@
-use Rattle.std.proofs.Common.{rules, ◌≡◌, ◌∙◌, ◌+◌, ◌≤◌, ℕ, false, Some, None, Option, List, length, refl, sym, ap, subst, arith}
+use Rattle.std.proofs.Common.{◌≡◌, ◌∙◌, false, length, sym, ap, arith}
 use Rattle.std.specs.Prelude.{is_some, nat_lt}
 use Rattle.std.proofs.lemmas.Bool.Decides.{nat_tests}
 use Rattle.std.proofs.lemmas.Result.{err_from_is_err_and}
-use Rattle.aria_page.specs.declared.place.Place.{Place}
 use Rattle.aria_cache.specs.PageState.{PageState}
 use Rattle.aria_block.specs.Causes.{rows_file}
 use Rattle.aria_block.specs.Pieces.{tail_of, tail_size}

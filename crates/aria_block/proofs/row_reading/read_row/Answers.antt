@@ -1,6 +1,5 @@
-use Rattle.std.proofs.Common.{rules, ◌≡◌, ◌∙◌, ◌+◌, ◌≤◌, ℕ, Some, None, Option, List, [], length, refl, sym, ap, subst, arith}
+use Rattle.std.proofs.Common.{None, arith}
 use Rattle.std.proofs.lemmas.Result.{err_from_is_err_and}
-use Rattle.aria_page.specs.declared.place.Place.{Place}
 use Rattle.aria_cache.specs.PageState.{PageState}
 use Rattle.aria_block.specs.Causes.{rows_file}
 use Rattle.aria_block.specs.Reading.{OfPieces, HasHead, HasAllRest, HasRow}

@@ -1,5 +1,5 @@
-use Rattle.std.proofs.Common.{◌≡◌, ◌∙◌, ◌+◌, ◌*◌, ◌-◌, ℕ, min, sym, ap, subst, arith, length}
-use Rattle.aria_block.specs.Pieces.{head_size, tail_size, blob_of}
+use Rattle.std.proofs.Common.{◌≡◌, ◌∙◌, ℕ, sym, ap, arith, length}
+use Rattle.aria_block.specs.Pieces.{head_size, tail_size}
 use Rattle.aria_block.proofs.Measuring.{blob_long}
 use Rattle.aria_block.proofs.row_sizes.blob_size.Goals as goal
 
