@@ -113,7 +113,8 @@ module _ (store : PageStore) (s : State) (base : ℕ) (start : Folder) (groups :
       ∙ ap (λ (b : Bool). option_map (all_edited (cond b [] (edits_on sp.name sp.part sp.page (records_of store.writer)))) (body_of (redone_at groups (length groups) (Some sp) (page_of s.folder sp.name sp.part sp.page)))) (lt_false (length groups) (base_of sp.name groups) (omega arith))
       ∙ ap (λ (x : Seen). option_map (all_edited (edits_on sp.name sp.part sp.page (records_of store.writer))) (body_of x)) (redone_all groups sp (page_of s.folder sp.name sp.part sp.page))
 
-  table_page : (n : ℕ) (name : List ℕ) (part : Part) (page : ℕ) → name_at store n ≡ Some name → page_in (tables_of s.folder groups name) part page ≡ redo name part page (life_of name groups).since (page_of s.folder name part page)
+  -- a page of a table, as the groups make it
+  pub table_page : (n : ℕ) (name : List ℕ) (part : Part) (page : ℕ) → name_at store n ≡ Some name → page_in (tables_of s.folder groups name) part page ≡ redo name part page (life_of name groups).since (page_of s.folder name part page)
   table_page n name part page named = subst (λ (m : List ℕ). page_in (tables_of s.folder groups m) part page ≡ redo m part page (life_of m groups).since (page_of s.folder m part page)) o.named by
     where
       o : Open store n name

@@ -32,6 +32,7 @@ use Rattle.aria_pager.specs.Pager.{OnDisk, IsSlot, pages_in, known}
 use Rattle.aria_pager.specs.View.{size_in}
 use Rattle.aria_pager.specs.Filing.{AreTidy}
 use Rattle.aria_pager.specs.Entered.{is_dropped, was_dropped, AreListed, is_told, reach_of, needs_slot, is_listed, HasPages, has_slot, used_slot, IsEntering, HasSlot, KeepSlots, HaveSlots, HasMany, AreMany, OfEnter, HasEnterCause}
+use Rattle.aria_pager.specs.Headers.{AreToldOf}
 use Rattle.aria_pager.proofs.Forgetting.{by_order}
 
 pub next_of : {A : Type 0} (xs : List A) (i : ℕ) (x : A) → i < length xs → x ≡ get_or xs i x → take (i + 1) xs ≡ take i xs ++ x ∷ []
@@ -149,6 +150,17 @@ module _ (store store' : PageStore) (name : List ℕ) (keys rows : FilePages) (s
   at_push : (f : Slot → Option (List ℕ)) (n : ℕ) → option_and_then f (slice_get store'.slots n) ≡ option_and_then f (slice_get (store.slots ++ used_slot name keys rows ∷ []) n)
   at_push f n = ap (λ (l : List Slot). option_and_then f (slice_get l n)) slots
 
+  -- the groups tell of the new one too
+  pub told_more : (groups : List Logged) → needs_slot name groups ≡ true → AreToldOf store groups → AreToldOf store' groups
+  told_more groups needs told n q at = by (name_push store.slots (used_slot name keys rows) n q (sym (at_push name_in n) ∙ at))
+    where
+      some : (a b : List ℕ) → Some a ≡ Some b → a ≡ b
+      some a b e = cc
+
+      by : (name_at store n ≡ Some q) ⊎ ((n ≡ length store.slots) × (Some name ≡ Some q)) → needs_slot q groups ≡ true
+      by (inl was) = told n q was
+      by (inr new) = subst (λ (p : List ℕ). needs_slot p groups ≡ true) (some name q new.1) needs
+
   pub tidy_more : keys.pages ≤ 2 ^ 31 → rows.pages ≤ 2 ^ 31 → AreTidy store → AreTidy store'
   tidy_more low_keys low_rows is = record { known = λ n q at. by_name n q (name_push store.slots (used_slot name keys rows) n q (sym (at_push name_in n) ∙ at)); few = few }
     where
@@ -252,6 +264,9 @@ tidy_blank store none = record {
   known = λ n name at. absurd (let e : None ≡ Some name = sym (ap (option_and_then name_in) (no_slots store n none)) ∙ at in (cc));
   few = λ n part sizes at. absurd (let e : None ≡ Some sizes = sym (ap (option_map sizes_in) (no_slots store n none)) ∙ at in (cc));
 }
+
+pub told_none : (store : PageStore) (groups : List Logged) → store.slots ≡ [] → AreToldOf store groups
+told_none store groups none n name at = absurd (let e : None ≡ Some name = sym (ap (option_and_then name_in) (no_slots store n none)) ∙ at in (cc))
 
 pub entering_begun : (store : PageStore) (folder : Folder) (groups : List Logged) (files : List FileName) → store.slots ≡ [] → ((q : List ℕ) → known store q ≡ cond (is_listed files groups q) (Some None) None) → AreListed files folder groups → IsEntering store folder groups
 entering_begun store folder groups files none knows listed = record {

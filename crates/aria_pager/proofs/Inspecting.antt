@@ -28,7 +28,7 @@ use Rattle.aria_pager.specs.Prepared.{AreAllListed}
 use Rattle.aria_pager.specs.Found.{HasOwn, Holds, IsFresh, IsFoundAs, MayBegin}
 use Rattle.aria_pager.specs.Inspected.{LooksAt, IsLookedAt}
 use Rattle.aria_pager.specs.Resting.{OfLook, OfEditedPage}
-use Rattle.aria_pager.specs.Opening.{IsLateFault, OfRedonePage, OfGroups, OfOpen}
+use Rattle.aria_pager.specs.Opening.{IsLateFault, OfRedonePage, OfGroups, OfFolder}
 use Rattle.aria_pager.proofs.LogRead.{opened_end}
 
 late_fault : (log : LogValue) (folder : Folder) (fault : Fault) → OfLook true log folder fault → IsLateFault true fault
@@ -125,5 +125,5 @@ module _ (control : Control) (value : Found) (s t u : State) (checkpoint : Lsn) 
   looked_all new (looked.Settled store) looks = record { checkpoint = checkpoint; base = base; groups = groups; own = own; chained = is.chained; looks = subst (λ (d : Folder). LooksAt d new base groups (looked.Settled store)) same_folder looks }
   looked_all new (looked.Needs end) looks = record { checkpoint = checkpoint; base = base; groups = groups; own = own; chained = is.chained; looks = subst (λ (d : Folder). LooksAt d new base groups (looked.Needs end)) same_folder looks }
 
-  pub why_all : (new : Folder) (fault : Fault) → OfGroups base groups u.folder new fault → OfOpen s.folder new fault
+  pub why_all : (new : Folder) (fault : Fault) → OfGroups base groups u.folder new fault → OfFolder s.folder new fault
   why_all new fault why = inr (record { checkpoint = checkpoint; base = base; groups = groups; own = inl own; why = subst (λ (d : Folder). OfGroups base groups d new fault) same_folder why })

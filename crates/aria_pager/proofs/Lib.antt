@@ -65,3 +65,4 @@ pub mod Beginnings
 pub mod Usable
 pub mod SettlingNames
 pub mod Evicting
+pub mod Heading

@@ -1,12 +1,13 @@
 -- A folder is opened: what its steps come to.
-use Rattle.std.proofs.Common.{◌≡◌, ◌∙◌, ◌≤◌, ◌⊎◌, inl, inr, ⊎_elim, ℕ, ◌*◌, Bool, false, List, [], ◌++◌, take, length, ap, sym, refl, subst, arith, true≢false}
-use Rattle.std.specs.Prelude.{IsTrue, is_some}
+use Rattle.std.proofs.Common.{◌≡◌, ◌∙◌, ◌≤◌, ◌⊎◌, inl, inr, ⊎_elim, ℕ, ◌*◌, Bool, true, false, List, [], ◌++◌, take, length, ap, sym, refl, subst, arith, true≢false}
+use Rattle.std.specs.Prelude.{Option, Result, Ok, Err, IsTrue, IfErr, IsErrOf, OnOk, is_some}
 use Rattle.std.specs.List.{list_any}
 use Rattle.std.proofs.Math.Seq.{take-length, take-nil}
 use Rattle.std.proofs.lemmas.List.{append-nil}
 use Rattle.aria_page.specs.declared.lsn.Lsn.{Lsn}
 use Rattle.aria_page.specs.declared.place.Part.{Part}
 use Rattle.aria_page.specs.declared.place.Part.TheVariants.{Keys, Rows}
+use Rattle.aria_host.specs.Count.{Rose}
 use Rattle.aria_host.specs.declared.fault.Fault.{Fault}
 use Rattle.aria_host.specs.declared.fault.Fault.TheVariants.{Memory, Disk, Tell, Input, PageDamaged, LogDamaged, LogSpent, ControlDamaged, NotOurs, FileMissing, TooManyTables}
 use Rattle.aria_host.specs.declared.file_name.FileName.{FileName}
@@ -20,7 +21,8 @@ use Rattle.aria_host.proofs.Moments.{OnlyNow, started, goes_on, joined, weakened
 use Rattle.aria_control.specs.Found.{control_file, is_control}
 use Rattle.aria_record.specs.Logged.{Logged}
 use Rattle.aria_recovery.specs.Redo.{Content, seen}
-use Rattle.aria_recovery.specs.Tables.{Agrees, file, tables_of}
+use Rattle.aria_record.specs.Writing.{records_of}
+use Rattle.aria_recovery.specs.Tables.{Agrees, Table, file, page_in, tables_of}
 use Rattle.aria_recovery.specs.Frames.{Progress, all_of}
 use Rattle.aria_recovery.specs.Moves.{AtFront}
 use Rattle.aria_recovery.proofs.Stepping.{tables_same}
@@ -38,9 +40,13 @@ use Rattle.aria_recovery.specs.Images.{page_of}
 use Rattle.aria_pager.specs.PageStore.{late_seen}
 use Rattle.aria_pager.specs.Steps.{damaged_at}
 use Rattle.aria_pager.specs.Prepared.{AreAllListed, KeepsTables, may_change}
-use Rattle.aria_pager.specs.Found.{IsBegun, AtBegin, MayBegin, IsFoundAs}
+use Rattle.aria_pager.specs.Found.{IsBegun, AtBegin, MayBegin, IsFoundAs, Holds, HasCause}
 use Rattle.aria_pager.proofs.LogRead.{opened_end}
-use Rattle.aria_pager.specs.Opening.{OfRedonePage, Finds, AtGroups, IsReopened, AsBefore, AtOpening, LeavesOpened, IsOpenedPager, OfGroups}
+use Rattle.aria_pager.specs.Opening.{OfRedonePage, Finds, AtGroups, IsReopened, AsBefore, AtOpening, LeavesOpened, IsOpenedPager, OfGroups, OfReopened, OfOpen, IsReopenFault}
+use Rattle.aria_pager.specs.Headers.{HasOtherMagic, IsNoHeader, OfHeader, OfHeaders, HasHeaderCause, AreToldOf, header_of, OfRedoneHeader}
+use Rattle.aria_pager.proofs.Again.{if_err_more}
+use Rattle.aria_pager.proofs.Heading.{redone_header}
+use Rattle.aria_pager.proofs.Stepping.{pager_look}
 
 -- ---- where it began
 
@@ -247,3 +253,110 @@ of_found base groups old mid new same fault why = record { late = why.late; miss
     by (PageDamaged f n) page = page
     by (LogDamaged f n) (s, is, end, holds, page, late) = (s, is, end, subst (λ (l : LogFiles). HoldsLog l base groups end) (log_found old mid same) holds, page, late)
     by f page = tt
+
+-- the header of a table, from where the folder was found
+pub header_found : (base : ℕ) (groups : List Logged) (old mid : Folder) → SameBut is_control old mid → (fault : Fault) → OfRedoneHeader base groups mid fault → OfRedoneHeader base groups old fault
+header_found base groups old mid same = by
+  where
+    is : (name : List ℕ) → header_of mid groups name ≡ header_of old groups name
+    is name = ap (λ (t : Option Table). page_in t Keys 0) (tables_found old mid groups same name)
+
+    by : (f : Fault) → OfRedoneHeader base groups mid f → OfRedoneHeader base groups old f
+    by (NotOurs f) (name, told, file_is, other) = (name, told, file_is, subst HasOtherMagic (is name) other)
+    by (PageDamaged f n) (name, told, file_is, zero, other) = (name, told, file_is, zero, subst IsNoHeader (is name) other)
+    by (LogDamaged f n) (name, told, end, holds, at, late) =
+        (name, told, end, subst (λ (l : LogFiles). HoldsLog l base groups end) (log_found old mid same) holds, at, ap (late_seen (number_at (8176 * end))) (sym (is name)) ∙ late)
+    by (Memory e) why = absurd why
+    by Disk why = absurd why
+    by Tell why = absurd why
+    by Input why = absurd why
+    by (LogSpent n) why = absurd why
+    by ControlDamaged why = absurd why
+    by (FileMissing f) why = absurd why
+    by TooManyTables why = absurd why
+
+-- A FOLDER ISN'T OPENED behind what was found
+pub of_own : (checkpoint : Lsn) (base : ℕ) (groups : List Logged) (old mid new : Folder) → Holds old checkpoint base groups → SameBut is_control old mid → (fault : Fault) → OfReopened base groups mid new fault → OfOpen old new fault
+of_own checkpoint base groups old mid new own same fault (inl why) = inl (inr (record { checkpoint = checkpoint; base = base; groups = groups; own = own; why = of_found base groups old mid new same fault why }))
+of_own checkpoint base groups old mid new own same fault (inr why) = inr (record { checkpoint = checkpoint; base = base; groups = groups; own = own; why = header_found base groups old mid same fault why })
+
+-- ---- headers are looked at, behind the groups
+
+pub reopened_look : (old s t : State) (base : ℕ) (groups : List Logged) (store : PageStore) → Unchanged s t → IsReopened old s base groups store → IsReopened old t base groups store
+reopened_look old s t base groups store same is = record {
+  pager = pager_look store s t (all_of groups) base old.folder groups (length groups) same is.pager;
+  tables = λ name. ap (λ (d : Folder). tables_of d groups name) same.folder ∙ is.tables name;
+  out = same.tells.out ∙ is.out;
+  err = same.tells.err ∙ is.err;
+}
+
+-- a table doesn't begin with a header
+pub of_header : (old s t : State) (first : LogValue) (base : ℕ) (groups : List Logged) (last : ℕ) (store : PageStore) (new : Folder) → s.may_leave s.folder → IsOpened first old base groups last → place store.log ≡ place first → records_of store.writer ≡ [] → IsReopened old s base groups store
+    → AreToldOf store groups → (fault : Fault) → OfHeaders true store s t fault → OfReopened base groups old.folder new fault
+of_header old s t first base groups last store new now opened same empty is told_of fault why =
+    let (end, holds, at) = opened_end first old base groups last opened in
+    by fault (redone_header store s t base old.folder groups now empty is.pager told_of old.folder is.tables end holds (same ∙ at) why.slot why.name fault why.named why.why)
+  where
+    disk : OfGroups base groups old.folder new Disk
+    disk = record { late = tt; missing = tt; many = tt; page = tt }
+
+    by : (f : Fault) → (f ≡ Disk) ⊎ OfRedoneHeader base groups old.folder f → OfReopened base groups old.folder new f
+    by f (inl is_disk) = inl (subst (OfGroups base groups old.folder new) (sym is_disk) disk)
+    by f (inr header) = inr header
+
+-- ---- causes
+
+-- a call behind one that met no fault of the disk
+pub cause_behind : {T : Type 0} (P Q : Fault → Type 0) (s m t : State) (r : Result T Fault) → ((f : Fault) → P f → Q f) → m.disk_faults ≡ s.disk_faults → m.tell_faults ≡ s.tell_faults → HasCause P m t r → HasCause Q s t r
+cause_behind P Q s m t r more disk tell is = record {
+  only = if_err_more r P Q more is.only;
+  counted = λ e. subst (λ (n : ℕ). Rose n t.disk_faults) disk (is.counted e);
+  calm = subst (λ (n : ℕ). OnOk r (t.disk_faults ≡ n)) disk is.calm;
+  later = subst (λ (n : ℕ). n ≤ t.disk_faults) disk is.later;
+  tell = is.tell ∙ tell;
+}
+
+abbrev err_or : {T : Type 0} → Fault → Result T Fault → Fault
+err_or d (Ok x) = d
+err_or d (Err f) = f
+
+-- a fault that is passed on
+pub cause_passed : {T U : Type 0} (P Q : Fault → Type 0) (s t : State) (f y : Fault) (r : Result U Fault) → r ≡ Err y → y ≡ f → ((f : Fault) → P f → Q f) → HasCause {T = T} P s t (Err f) → HasCause {T = U} Q s t r
+cause_passed {T} {U} P Q s t f y r r_is y_is more is = subst (λ (q : Result U Fault). HasCause {T = U} Q s t q) (sym (r_is ∙ ap (λ (x : Fault). Err x) y_is)) record {
+  only = more f is.only;
+  counted = λ e. is.counted (ap (λ (x : Fault). Err x) (ap (λ (q : Result U Fault). err_or f q) e));
+  calm = tt;
+  later = is.later;
+  tell = is.tell;
+}
+
+-- a table doesn't begin with a header
+pub header_passed : {T : Type 0} (tells : Bool) (store : PageStore) (s m t : State) (r : Result T Fault) → m.disk_faults ≡ s.disk_faults → m.tell_faults ≡ s.tell_faults → HasHeaderCause tells store m t r → HasCause (IsReopenFault tells) s t r
+header_passed {T} tells store s m t r disk tell is = record {
+  only = only r is.only;
+  counted = counted r is.only;
+  calm = subst (λ (n : ℕ). OnOk r (t.disk_faults ≡ n)) disk is.calm;
+  later = subst (λ (n : ℕ). n ≤ t.disk_faults) disk is.later;
+  tell = is.tell ∙ tell;
+}
+  where
+    by : (n : ℕ) (name : List ℕ) (f : Fault) → OfHeader tells store n name m t f → IsReopenFault tells f
+    by n name Disk why = inl tt
+    by n name (NotOurs f) why = inr (name, why.0)
+    by n name (PageDamaged f p) why = inl tt
+    by n name (LogDamaged f p) why = inl tt
+    by n name (Memory e) why = absurd why
+    by n name Tell why = absurd why
+    by n name Input why = absurd why
+    by n name (LogSpent p) why = absurd why
+    by n name ControlDamaged why = absurd why
+    by n name (FileMissing f) why = absurd why
+    by n name TooManyTables why = absurd why
+
+    only : (q : Result T Fault) → IfErr q (OfHeaders tells store m t) → IfErr q (IsReopenFault tells)
+    only (Ok x) why = tt
+    only (Err f) why = by why.slot why.name f why.why
+
+    counted : (q : Result T Fault) → IfErr q (OfHeaders tells store m t) → IsErrOf q Disk → Rose s.disk_faults t.disk_faults
+    counted (Ok x) why e = absurd (cc)
+    counted (Err f) why e = subst (λ (n : ℕ). Rose n t.disk_faults) disk (subst (OfHeader tells store why.slot why.name m t) (ap (λ (q : Result T Fault). err_or f q) e) why.why)

@@ -341,9 +341,9 @@ unchanged_known tables tables' same q = ap (λ (es : List (List ℕ × Option �
 -- ---- the first page of an index file
 
 -- it is ahead of the log
-pub first_late : (page : List ℕ) (file : FileName) (end lsn : Lsn) (fault : Fault) → fault ≡ damaged_at end → lsn ≡ page_lsn page → lsn_number end ≤ lsn_number lsn → OfFirst true page file end fault
-first_late page file end lsn fault is at late = subst (OfFirst true page file end) (sym is)
-    (refl, λ on. subst (λ (n : ℕ). lsn_number end ≤ n) (ap lsn_number at ∙ sym (page_number_is page)) late)
+pub first_late : (page : List ℕ) (file : FileName) (end lsn : Lsn) (fault : Fault) → fault ≡ damaged_at end → IsSound page → lsn ≡ page_lsn page → lsn_number end ≤ lsn_number lsn → OfFirst true page file end fault
+first_late page file end lsn fault is sound at late = subst (OfFirst true page file end) (sym is)
+    (refl, λ on. (sound, subst (λ (n : ℕ). lsn_number end ≤ n) (ap lsn_number at ∙ sym (page_number_is page)) late))
 
 pub first_headed : (page body : List ℕ) (end lsn : Lsn) → body ≡ page_body page → IsSound page → has_magic body ≡ true → slice_index body 0 ≡ kind_byte Header → lsn ≡ page_lsn page → lsn_number lsn < lsn_number end → IsHeaded (lsn_number end) page
 first_headed page body end lsn is sound magic kind at early = record {
@@ -357,7 +357,7 @@ first_headed page body end lsn is sound magic kind at early = record {
 pub first_told : (tells : Bool) (page page' : List ℕ) (file : FileName) (end : Lsn) (fault : Fault) → (IsTrue tells → page ≡ page') → OfFirst true page file end fault → OfFirst tells page' file end fault
 first_told tells page page' file end (NotOurs f) same is = (is.0, λ told. subst (λ (p : List ℕ). IsSound p × (has_magic (page_body p) ≡ false)) (same told) (is.1 refl))
 first_told tells page page' file end (PageDamaged f n) same is = (is.0, is.1, λ told. subst (λ (p : List ℕ). (¬ IsSound p) ⊎ ((has_magic (page_body p) ≡ true) × (¬ (slice_index (page_body p) 0 ≡ kind_byte Header)))) (same told) (is.2 refl))
-first_told tells page page' file end (LogDamaged f n) same is = (is.0, λ told. subst (λ (p : List ℕ). lsn_number end ≤ page_number p) (same told) (is.1 refl))
+first_told tells page page' file end (LogDamaged f n) same is = (is.0, λ told. subst (λ (p : List ℕ). IsSound p × (lsn_number end ≤ page_number p)) (same told) (is.1 refl))
 first_told tells page page' file end (Memory e) same is = absurd is
 first_told tells page page' file end Disk same is = absurd is
 first_told tells page page' file end Tell same is = absurd is

@@ -19,6 +19,7 @@ pub mod Slotted
 pub mod Going
 pub mod Grouped
 pub mod Resting
+pub mod Headers
 pub mod Found
 pub mod Opening
 pub mod Inspected

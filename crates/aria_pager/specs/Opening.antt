@@ -2,8 +2,9 @@
 use Rattle.std.specs.Prelude.{◌≡◌, ◌⊎◌, ◌*◌, ⊤, ℕ, Bool, true, false, None, List, length}
 use Rattle.aria_page.specs.declared.lsn.Lsn.{Lsn}
 use Rattle.aria_page.specs.declared.place.Part.{Part}
+use Rattle.aria_page.specs.declared.place.Part.TheVariants.{Keys}
 use Rattle.aria_host.specs.declared.fault.Fault.{Fault}
-use Rattle.aria_host.specs.declared.fault.Fault.TheVariants.{Memory, Disk, PageDamaged, LogDamaged, FileMissing, TooManyTables}
+use Rattle.aria_host.specs.declared.fault.Fault.TheVariants.{Memory, Disk, NotOurs, PageDamaged, LogDamaged, FileMissing, TooManyTables}
 use Rattle.aria_host.specs.declared.file_name.FileName.{FileName}
 use Rattle.aria_host.specs.Folder.{Folder}
 use Rattle.aria_host.specs.Moments.{SameBut}
@@ -28,6 +29,7 @@ use Rattle.aria_pager.specs.Pager.{HasFront, IsPager}
 use Rattle.aria_pager.specs.Settled.{IsFound}
 use Rattle.aria_pager.specs.Prepared.{AreAllListed}
 use Rattle.aria_pager.specs.Entered.{AreLow, LacksOne, AreMany}
+use Rattle.aria_pager.specs.Headers.{OfRedoneHeader}
 use Rattle.aria_pager.specs.Found.{IsFresh, IsBegun, Holds, Refuses, IsFindFault}
 
 -- A crash leaves what one before might have left; where nothing was ever stored, the control file may be in the making there.
@@ -128,10 +130,42 @@ pub record OfOwnGroups (old new : Folder) (fault : Fault) : Type 0 where
   pub own : Holds old checkpoint base groups
   pub why : OfGroups base groups old new fault
 
--- A FOLDER ISN'T OPENED as its control file or its log is refused, or else for what its groups ask of the tables' files.
+-- A FOLDER ISN'T READ as its control file or its log is refused, or else for what its groups ask of the tables' files.
+abbrev pub OfFolder : Folder → Folder → Fault → Type 0
+OfFolder old new fault = Refuses old fault ⊎ OfOwnGroups old new fault
+
+-- the faults that a look at it answers
+abbrev pub IsFolderFault : Bool → Fault → Type 0
+IsFolderFault tells fault = IsFindFault fault ⊎ IsLateFault tells fault
+
+-- ---- headers
+
+-- Why a pager isn't opened behind what was found: the groups aren't made again, or a table that they tell of doesn't begin with a
+-- header then.
+abbrev pub OfReopened : ℕ → List Logged → Folder → Folder → Fault → Type 0
+OfReopened base groups old new fault = OfGroups base groups old new fault ⊎ OfRedoneHeader base groups old fault
+
+-- the index file of a table isn't ours
+abbrev pub IsForeign : Fault → Type 0
+IsForeign (NotOurs f) = (name : List ℕ) × (f ≡ file name Keys)
+IsForeign _ = ⊥
+
+abbrev pub IsReopenFault : Bool → Fault → Type 0
+IsReopenFault tells fault = IsLateFault tells fault ⊎ IsForeign fault
+
+-- the same of the groups of the folder's own log
+pub record OfOwnHeader (folder : Folder) (fault : Fault) : Type 0 where
+  pub checkpoint : Lsn
+  pub base : ℕ
+  pub groups : List Logged
+  pub own : Holds folder checkpoint base groups
+  pub why : OfRedoneHeader base groups folder fault
+
+-- A FOLDER ISN'T OPENED as it isn't read, or as a table of which its groups tell doesn't begin with a header once they are made
+-- again.
 abbrev pub OfOpen : Folder → Folder → Fault → Type 0
-OfOpen old new fault = Refuses old fault ⊎ OfOwnGroups old new fault
+OfOpen old new fault = OfFolder old new fault ⊎ OfOwnHeader old fault
 
 -- the faults that opening answers
 abbrev pub IsOpenFault : Bool → Fault → Type 0
-IsOpenFault tells fault = IsFindFault fault ⊎ IsLateFault tells fault
+IsOpenFault tells fault = IsFolderFault tells fault ⊎ IsForeign fault

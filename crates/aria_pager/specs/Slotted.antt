@@ -77,7 +77,7 @@ pub record IsHeaded (end : ℕ) (page : List ℕ) : Type 0 where
 abbrev pub OfFirst : Bool → List ℕ → FileName → Lsn → Fault → Type 0
 OfFirst tells page file end (NotOurs f) = (f ≡ file) × (IsTrue tells → IsSound page × (has_magic (page_body page) ≡ false))
 OfFirst tells page file end (PageDamaged f n) = (f ≡ file) × (n ≡ 0) × (IsTrue tells → (¬ IsSound page) ⊎ ((has_magic (page_body page) ≡ true) × (¬ (slice_index (page_body page) 0 ≡ kind_byte page_kinds.Header))))
-OfFirst tells page file end (LogDamaged f n) = (LogDamaged f n ≡ damaged_at end) × (IsTrue tells → lsn_number end ≤ page_number page)
+OfFirst tells page file end (LogDamaged f n) = (LogDamaged f n ≡ damaged_at end) × (IsTrue tells → IsSound page × (lsn_number end ≤ page_number page))
 OfFirst tells page file end _ = ⊥
 
 -- a file of a table is there, with so many pages

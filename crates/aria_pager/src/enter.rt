@@ -17,6 +17,7 @@ ghost use Rattle.aria_recovery.specs.Tables.{file};
 ghost use Rattle.aria_recovery.specs.Analysed.{Has};
 ghost use Rattle.aria_cache.specs.Frames.{held};
 ghost use Rattle.aria_pager.specs.Pager.{known};
+ghost use Rattle.aria_pager.specs.Headers.{AreToldOf};
 ghost use Rattle.aria_pager.specs.View.{IsTidy};
 ghost use Rattle.aria_pager.specs.Filing.{AreTidy, with_tables};
 ghost use Rattle.aria_pager.specs.Settled.{IsSettled};
@@ -24,7 +25,7 @@ ghost use Rattle.aria_pager.specs.Redone.{BeginsRedo};
 ghost use Rattle.aria_pager.specs.Entered.{was_dropped, needs_slot, reach_of, is_listed, has_slot, used_slot, AreLow, AreListed, HasPages, IsEntering, HasSlot, KeepSlots, HaveSlots, IsBlank, HasEntered, LacksFile, LacksOne, HasMany, AreMany, HasEnterCause};
 
 use crate::page_store::PageStore;
-use crate::slot::{FilePages, Slot, file_of};
+use crate::slot::{FilePages, MAX_SLOTS, Slot, file_of};
 use aria_cache::Frames;
 use aria_host::{Fault, FileName, Host, MAX_PAGES};
 use aria_log::Log;
@@ -34,9 +35,6 @@ use aria_recovery::{Analysis, Told};
 use std::alloc::{AllocError, Global};
 use std::collections::BTreeMap;
 use std::num::NonZeroUsize;
-
-// How many slots there may be.
-const MAX_SLOTS: usize = u32::MAX as usize;
 
 // The fewest pages that there is room for in memory.
 const FEWEST_PAGES: u32 = 64;
@@ -232,6 +230,7 @@ impl PageStore {
         ensures enters { IsTrue H.tells → (checkpoint : Number) (groups : Seq Logged) → Has checkpoint analysis.now groups → AreLow groups → records_of self.old.writer ≡ [] → IsEntering self.old (H.state host.old).folder groups → OnOk result (IsEntering self.new (H.state host.old).folder groups) }
         ensures given { (checkpoint : Number) (groups : Seq Logged) → Has checkpoint analysis.now groups → needs_slot name.now groups ≡ true → OnOk result (HasSlot self.new name.now) }
         ensures keeps { OnOk result (KeepSlots self.old self.new) }
+        ensures told { (checkpoint : Number) (groups : Seq Logged) → Has checkpoint analysis.now groups → AreToldOf self.old groups → OnOk result (AreToldOf self.new groups) }
         ensures tidy { AreTidy self.old → OnOk result (AreTidy self.new) }
         ensures missing { IsTrue H.tells → (checkpoint : Number) (groups : Seq Logged) → Has checkpoint analysis.now groups → IfErr result (LacksOne groups (H.state host.old).folder) }
         ensures many { IfErr result (HasMany (length self.old.slots)) }
@@ -261,6 +260,7 @@ impl PageStore {
     ) -> Result<(), Fault>
         ensures enters { IsTrue H.tells → (checkpoint : Number) (groups : Seq Logged) → Has checkpoint analysis.now groups → AreLow groups → records_of self.old.writer ≡ [] → IsEntering self.old (H.state host.old).folder groups
             → OnOk result (IsEntering self.new (H.state host.old).folder groups × HaveSlots self.new groups names.now) }
+        ensures told { (checkpoint : Number) (groups : Seq Logged) → Has checkpoint analysis.now groups → AreToldOf self.old groups → OnOk result (AreToldOf self.new groups) }
         ensures tidy { AreTidy self.old → OnOk result (AreTidy self.new) }
         ensures missing { IsTrue H.tells → (checkpoint : Number) (groups : Seq Logged) → Has checkpoint analysis.now groups → IfErr result (LacksOne groups (H.state host.old).folder) }
         ensures many { IfErr result (HasMany (length self.old.slots + length names.now)) }
@@ -287,6 +287,7 @@ pub(crate) fn enter_tables<H: Host>(
     cache: u32,
 ) -> Result<PageStore, Fault>
     ensures entered { IsTrue H.tells → (checkpoint : Number) (groups : Seq Logged) → Has checkpoint analysis.now groups → AreLow groups → AreListed files.now (H.state host.old).folder groups → IfOk result (HasEntered log started (H.state host.old).folder groups) }
+    ensures told { (checkpoint : Number) (groups : Seq Logged) → Has checkpoint analysis.now groups → IfOk result (λ store. AreToldOf store groups) }
     ensures none { IfOk result (λ store. (k : ℕ) → held store.frames k ≡ None) }
     ensures missing { IsTrue H.tells → (checkpoint : Number) (groups : Seq Logged) → Has checkpoint analysis.now groups → IfErr result (LacksOne groups (H.state host.old).folder) }
     ensures many { (checkpoint : Number) (groups : Seq Logged) → Has checkpoint analysis.now groups → IfErr result (AreMany groups) }
@@ -318,6 +319,7 @@ pub(crate) fn enter<H: Host>(
 ) -> Result<PageStore, Fault>
     ensures begins { IsTrue H.tells → (checkpoint : Number) (base : ℕ) (start : Folder) (groups : Seq Logged) → IsSettled log (H.state host.old) base start groups → Has checkpoint analysis.now groups → AreLow groups → AreListed files.now (H.state host.old).folder groups
         → IfOk result (λ store. BeginsRedo store (H.state host.new) analysis.now (lsn_at_place base) base start groups (length groups)) }
+    ensures told { (checkpoint : Number) (groups : Seq Logged) → Has checkpoint analysis.now groups → IfOk result (λ store. AreToldOf store groups) }
     ensures missing { IsTrue H.tells → (checkpoint : Number) (groups : Seq Logged) → Has checkpoint analysis.now groups → IfErr result (LacksOne groups (H.state host.old).folder) }
     ensures many { (checkpoint : Number) (groups : Seq Logged) → Has checkpoint analysis.now groups → IfErr result (AreMany groups) }
     ensures tidy { IfOk result IsTidy }

@@ -26,7 +26,7 @@ use crate::load::log_damaged;
 use aria_control::{Control, read};
 use aria_host::{Fault, FileName, Host};
 use aria_log::Log;
-use aria_page::{LOG_BODY_AT, List, Lsn, PAGE_BYTES};
+use aria_page::{LOG_BODY_AT, List, Lsn};
 use aria_recovery::Analysis;
 use std::alloc::Global;
 
@@ -105,10 +105,7 @@ fn check_chain(analysis: &Analysis) -> Result<(), Fault>
     let _file = FileName::Control;
     match analysis.unchained() {
         None => Ok(()),
-        Some(at) => Err(Fault::LogDamaged {
-            file: at.file,
-            page: at.offset / PAGE_BYTES as u32,
-        }),
+        Some(at) => Err(log_damaged(at)),
     }
 }
 

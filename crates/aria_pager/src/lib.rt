@@ -27,6 +27,7 @@ mod enter;
 mod evict;
 mod find;
 mod force;
+mod headers;
 mod leftover;
 mod load;
 mod look;

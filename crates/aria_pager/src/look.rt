@@ -5,7 +5,7 @@ ghost use Rattle.aria_page.specs.declared.lsn.Lsn.{Lsn as Number};
 ghost use Rattle.aria_host.specs.Calls.{Narrows, Unchanged};
 ghost use Rattle.aria_record.specs.Logged.{Logged};
 ghost use Rattle.aria_pager.specs.Found.{HasCause};
-ghost use Rattle.aria_pager.specs.Opening.{Finds, IsLateFault, IsOpenFault, OfGroups, OfOpen};
+ghost use Rattle.aria_pager.specs.Opening.{Finds, IsFolderFault, IsLateFault, OfFolder, OfGroups};
 ghost use Rattle.aria_pager.specs.Inspected.{IsIdle, IsLookedAt, LooksAt};
 
 use crate::at_rest::look_found;
@@ -56,8 +56,8 @@ impl PageStore {
         ensures idle { IfOk result IsIdle }
         ensures looked { IsTrue H.tells → IfOk result (IsLookedAt (H.state host.old) (H.state host.new)) }
         ensures same { IsTrue H.tells → Narrows (H.state host.old) (H.state host.new) }
-        ensures why { IsTrue H.tells → IfErr result (OfOpen (H.state host.old).folder (H.state host.new).folder) }
-        ensures cause { HasCause (IsOpenFault H.tells) (H.state host.old) (H.state host.new) result }
+        ensures why { IsTrue H.tells → IfErr result (OfFolder (H.state host.old).folder (H.state host.new).folder) }
+        ensures cause { HasCause (IsFolderFault H.tells) (H.state host.old) (H.state host.new) result }
     {
         let _file = FileName::Control;
         match read(alloc, host)? {

@@ -7,12 +7,9 @@ ghost use Rattle.aria_pager.specs.PageStore.{name_in, name_at, set_at};
 ghost use Rattle.aria_pager.specs.Filing.{empty_slot, first_slot, Reserves, AreTaken, with_slots};
 
 use crate::page_store::PageStore;
-use crate::slot::{FilePages, Slot};
+use crate::slot::{FilePages, MAX_SLOTS, Slot};
 use aria_host::{Fault, FileName};
 use aria_page::Name;
-
-// How many slots there may be.
-const MAX_SLOTS: usize = u32::MAX as usize;
 
 // The first slot that is unused, or behind the last one.
 fn first_unused(slots: &[Slot]) -> usize

@@ -7,6 +7,9 @@ ghost use Rattle.aria_pager.specs.Pager.{pages_in, with_pages};
 use aria_host::FileName;
 use aria_page::{Name, Part};
 
+/// How many slots there may be.
+pub(crate) const MAX_SLOTS: usize = u32::MAX as usize;
+
 /// How many pages a table's file has.
 #[derive(Clone, Copy, Debug)]
 pub(crate) struct FilePages {

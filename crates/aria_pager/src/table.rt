@@ -4,6 +4,7 @@ ghost use Rattle.std.specs.Prelude.{◌≡◌, ◌⊎◌, ◌<◌, ◌≤◌, �
 ghost use Rattle.aria_page.specs.declared.page.TheConstants.{BODY_BYTES};
 ghost use Rattle.aria_page.specs.declared.place.Part.TheVariants.{Keys, Rows};
 ghost use Rattle.aria_page.specs.Lsn.{lsn_number};
+ghost use Rattle.aria_page.specs.Page.{page_body};
 ghost use Rattle.aria_host.specs.Calls.{Unchanged};
 ghost use Rattle.aria_pager.specs.declared.page_store.PageStore.{PageStore as AnyStore};
 ghost use Rattle.aria_value.specs.Named.{same_name};
@@ -18,6 +19,7 @@ ghost use Rattle.aria_pager.specs.Pager.{IsPager, KnowsTables, known, next_numbe
 ghost use Rattle.aria_pager.specs.View.{IsTidy};
 ghost use Rattle.aria_pager.specs.Filing.{with_tables};
 ghost use Rattle.aria_pager.specs.Slotted.{given_slot, has_magic, IsHeaded, IsThere, OfFirst, HasTableCause, Gives, IsReserved, Opens};
+ghost use Rattle.aria_pager.specs.Headers.{IsHeader, OfBody};
 ghost use Rattle.aria_pager.specs.Goes.{Stands};
 ghost use Rattle.aria_cache.specs.Calls.{fault_of};
 
@@ -49,19 +51,12 @@ fn has_magic(body: &[u8]) -> bool
     body[1..].starts_with(b"ARIAOWN1")
 }
 
-// The first page of an index file must be a header, by its magic and its kind, that isn't ahead of a log which ends here.
-fn check_first(page: &Page, file: &FileName, end: Lsn) -> Result<(), Fault>
-    ensures headed { OnOk result (IsHeaded (lsn_number end) page.now) }
-    ensures cause { IfErr result (OfFirst true page.now file.now end) }
+/// The body of the first page of an index file must be a header's, by its magic and its kind.
+pub(crate) fn check_header(body: &[u8], file: &FileName) -> Result<(), Fault>
+    requires { length body.now ≡ BODY_BYTES }
+    ensures header { OnOk result (IsHeader body.now) }
+    ensures cause { IfErr result (OfBody body.now file.now) }
 {
-    let _file = FileName::Control;
-    if !page.is_sound() {
-        return Err(Fault::PageDamaged {
-            file: *file,
-            page: 0,
-        });
-    }
-    let body = page.body();
     if !has_magic(body) {
         return Err(Fault::NotOurs { file: *file });
     }
@@ -71,6 +66,23 @@ fn check_first(page: &Page, file: &FileName, end: Lsn) -> Result<(), Fault>
             page: 0,
         });
     }
+    Ok(())
+}
+
+/// The first page of an index file must be a header, by its magic and its kind, that isn't ahead of a log which ends here.
+pub(crate) fn check_first(page: &Page, file: &FileName, end: Lsn) -> Result<(), Fault>
+    ensures headed { OnOk result (IsHeaded (lsn_number end) page.now) }
+    ensures len { OnOk result (length (page_body page.now) ≡ BODY_BYTES) }
+    ensures cause { IfErr result (OfFirst true page.now file.now end) }
+{
+    let _file = FileName::Control;
+    if !page.is_sound() {
+        return Err(Fault::PageDamaged {
+            file: *file,
+            page: 0,
+        });
+    }
+    check_header(page.body(), file)?;
     let lsn = page.lsn();
     if !lsn.is_before(end) {
         return Err(log_damaged(bounded(end)));
@@ -174,7 +186,7 @@ impl PageStore {
     }
 
     // The slot of the table, if it has one.
-    fn slot_of_table(&self, name: &Name) -> Option<u32>
+    pub(crate) fn slot_of_table(&self, name: &Name) -> Option<u32>
         ensures some { IfSome result (λ n. (known self.now name.now ≡ Some (Some n)) × (name_at self.now n ≡ Some name.now)) }
         ensures none { result ≡ None → (n : ℕ) → known self.now name.now ≡ Some (Some n) → name_at self.now n ≡ Some name.now → ⊥ }
     {

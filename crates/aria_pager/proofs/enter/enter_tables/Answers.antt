@@ -9,7 +9,7 @@ use Rattle.aria_pager.specs.Filing.{with_tables}
 use Rattle.aria_pager.specs.Entered.{HasMany, AreMany, HaveSlots, is_listed}
 use Rattle.std.proofs.lemmas.Result.{err_from_is_err_and}
 use Rattle.aria_pager.proofs.Again.{if_err_at}
-use Rattle.aria_pager.proofs.Given.{are_many, tidy_blank, entering_begun}
+use Rattle.aria_pager.proofs.Given.{are_many, tidy_blank, told_none, entering_begun}
 use Rattle.aria_pager.proofs.Entered.{covered, tidy_entered}
 use Rattle.aria_pager.proofs.enter.enter_tables.Goals as goal
 
@@ -36,6 +36,12 @@ returns-clause-entered g c = λ told checkpoint groups has low listed.
       entering = both.0;
       have = λ name needs. covered n groups checkpoint c.args.analysis.now names has have (c.in_ok-names.ensures.all checkpoint groups has) name needs;
     }
+
+pub returns-clause-told : goal.returns-clause-told
+returns-clause-told g c = λ checkpoint groups has.
+    let b = c.in_ok-store.store in
+    let noted : PageStore = with_tables b b.frames b.slots c.note_files.new.tables in
+    c.in_ok-give_slots.ensures.told checkpoint groups has (told_none noted groups c.in_ok-store.ensures.slots)
 
 pub returns-clause-none : goal.returns-clause-none
 returns-clause-none g c = λ k.

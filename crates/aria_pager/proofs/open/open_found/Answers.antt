@@ -9,6 +9,7 @@ use Rattle.aria_pager.specs.Opening.{OfGroups}
 use Rattle.aria_pager.proofs.Again.{if_err_at}
 use Rattle.aria_pager.proofs.Opened.{groups_prepared, entered_keeps, reopened_keeps, reopened, of_redo}
 use Rattle.std.proofs.lemmas.Result.{err_from_is_err_and}
+use Rattle.aria_pager.proofs.Heading.{told_same}
 use Rattle.aria_pager.proofs.Viewing.{tidy_same}
 use Rattle.aria_pager.proofs.open.open_found.Goals as goal
 
@@ -52,6 +53,20 @@ returns-in_err-redo-clause-keeps g c = λ told checkpoint base groups is.
     reopened_keeps s (g.H.Host.state c.prepare.new.host) u base groups (p.keeps told checkpoint base groups is.found is.has listed) (p.agrees told checkpoint base groups is.found is.has listed)
     (c.in_ok-store.ensures.same told) (λ t f le leaves. g.met.H.Host.counts_now c.prepare.new.host t f told le leaves)
     (g.H.Host.state c.redo.new.host) c.in_ok-store.store c.redo.new.self false (c.in_err-redo.ensures.redoes told base s.folder groups (length groups) begun)
+
+pub returns-clause-log : goal.returns-clause-log
+returns-clause-log g c = λ told checkpoint base groups is.
+    let s = g.H.Host.state c.args.host.now in
+    let d = (g.H.Host.state c.prepare.new.host).folder in
+    let u = g.H.Host.state c.enter.new.host in
+    let listed = subst (λ (l : List FileName). AreAllListed l s.folder) (sym c.as_slice.ensures) is.listed in
+    let q = c.in_ok-log.ensures.settled told checkpoint base groups is.found is.has listed in
+    let here = subst (λ (l : List FileName). AreListed l d groups) (sym c.as_slice-2.ensures) (subst (λ (l : List FileName). AreListed l d groups) c.as_slice.ensures q.1) in
+    let begun = subst (λ (l : Lsn). BeginsRedo c.in_ok-store.store u c.args.found.analysis l base s.folder groups (length groups)) (sym is.from_is) (c.in_ok-store.ensures.begins told checkpoint base s.folder groups q.0 is.has is.low here) in
+    ap place ((c.in_ok-redo.ensures.redoes told base s.folder groups (length groups) begun).log refl).log ∙ ap place c.in_ok-store.ensures.log ∙ c.in_ok-log.ensures.place
+
+pub returns-clause-told : goal.returns-clause-told
+returns-clause-told g c = λ told checkpoint base groups is. told_same c.in_ok-store.store c.redo.new.self groups c.in_ok-redo.ensures.same.slots (c.in_ok-store.ensures.told checkpoint groups is.has)
 
 pub returns-clause-tidy : goal.returns-clause-tidy
 returns-clause-tidy g c = tidy_same c.in_ok-store.store c.redo.new.self c.in_ok-redo.ensures.same c.in_ok-store.ensures.tidy

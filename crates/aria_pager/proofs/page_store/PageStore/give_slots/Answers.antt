@@ -26,6 +26,7 @@ loop-name-preserved g c =
             subst (λ (d : Folder). IsEntering n d groups) same (c.in_ok-give_slot.ensures.enters told checkpoint groups has low none (subst (λ (d : Folder). IsEntering l d groups) (sym same) first.0)),
             have_more l n groups names i c.name-item.result (next_of names i c.name-item.result c.loop-name-test.true c.name-item.is) c.in_ok-give_slot.ensures.keeps (c.in_ok-give_slot.ensures.given checkpoint groups has) first.1,
           );
+      told = λ checkpoint groups has told. c.in_ok-give_slot.ensures.told checkpoint groups has (c.loop-name.invariant.told checkpoint groups has told);
       tidy = λ is. c.in_ok-give_slot.ensures.tidy (c.loop-name.invariant.tidy is);
       most = (let e = c.in_ok-give_slot.ensures.most in let h = c.loop-name.invariant.most in omega (arith, e, h));
       rest = c.in_ok-give_slot.ensures.rest ∙ ap (λ (s : PageStore). with_tables s s.frames n.slots n.tables) c.loop-name.invariant.rest;

@@ -4,7 +4,7 @@ use Rattle.aria_control.specs.declared.found.Found.{Found as ControlFound}
 use Rattle.aria_control.specs.Found.{Answers, Fails}
 use Rattle.std.proofs.lemmas.Result.{IfOk-weaker}
 use Rattle.aria_host.proofs.Moments.{looks, narrows_then}
-use Rattle.aria_pager.specs.Opening.{OfGroups, OfOpen}
+use Rattle.aria_pager.specs.Opening.{OfGroups, OfFolder}
 use Rattle.aria_pager.proofs.Again.{if_err_more}
 use Rattle.aria_pager.proofs.Opened.{finds}
 use Rattle.aria_pager.proofs.Inspecting.{found_narrows, looked_all, why_all}
@@ -42,5 +42,5 @@ returns-in_ok-found-in-Kept-clause-why g c = λ told.
     let u = g.H.Host.state c.find.new.host in
     let v = g.H.Host.state c.look_at.new.host in
     let only = subst (λ (f : ControlFound). (other : Result ControlFound Fault) → Answers other s.folder → Fails (Ok f) ⊎ (other ≡ Ok f)) c.in-Kept.is (c.in_ok-read.ensures.only told) in
-    if_err_more c.look_at.result (OfGroups base groups u.folder v.folder) (OfOpen s.folder v.folder) (why_all c.in-Kept.field-0 c.in_ok-found-in-Kept.found s t u checkpoint base groups (c.in_ok-read.ensures.same told) only (c.in_ok-found-in-Kept.ensures.begins told) is v.folder)
+    if_err_more c.look_at.result (OfGroups base groups u.folder v.folder) (OfFolder s.folder v.folder) (why_all c.in-Kept.field-0 c.in_ok-found-in-Kept.found s t u checkpoint base groups (c.in_ok-read.ensures.same told) only (c.in_ok-found-in-Kept.ensures.begins told) is v.folder)
     (c.look_at.ensures.why told checkpoint base groups (finds c.in_ok-found-in-Kept.found t u checkpoint base groups is))
