@@ -1,5 +1,5 @@
 -- The first pages of tables' index files, as memory and the files have them and as the groups make them.
-use Rattle.std.proofs.Common.{◌≡◌, ◌∙◌, ◌&&◌, ◌⊎◌, inl, inr, ℕ, ◌*◌, ◌^◌, ◌≤◌, max, Bool, true, false, cond, nat_lt, List, [], ◌∷◌, length, ap, sym, refl, subst, arith, Option, None, Some, Result, Ok, Err}
+use Rattle.std.proofs.Common.{◌≡◌, ◌∙◌, ◌&&◌, ◌⊎◌, inl, inr, ℕ, ◌*◌, ◌^◌, ◌<◌, ◌≤◌, max, Bool, true, false, not, cond, nat_lt, List, [], ◌∷◌, length, ap, sym, refl, subst, arith, Option, None, Some, Result, Ok, Err}
 use Rattle.std.specs.Prelude.{All, IsTrue, IfErr, OnOk, is_some, slice_get, slice_index}
 use Rattle.std.specs.Option.{option_map, option_map_or}
 use Rattle.std.proofs.lemmas.Bool.{eq-eqb}
@@ -32,7 +32,7 @@ use Rattle.aria_recovery.specs.Images.{page_of}
 use Rattle.aria_recovery.specs.Tables.{Table, file, life_of, page_in, tables_of}
 use Rattle.aria_recovery.specs.Frames.{Spot, PageOn, as_seen, dirty_of, edits_of, raw_at, redone_at}
 use Rattle.aria_recovery.proofs.Behind.{redone_all}
-use Rattle.aria_recovery.proofs.Comparing.{le_true}
+use Rattle.aria_recovery.proofs.Comparing.{le_true, le_false}
 use Rattle.aria_recovery.proofs.Holding.{topped_same}
 use Rattle.aria_recovery.proofs.Seeing.{seen_sound, seen_none, seen_zero}
 use Rattle.aria_pager.specs.declared.page_store.PageStore.{PageStore}
@@ -42,7 +42,7 @@ use Rattle.aria_pager.specs.Pager.{OnDisk, IsPager, next_number, pages_in}
 use Rattle.aria_pager.specs.Headers.{IsHeader, HasHeader, HaveHeaders, BeginsIn, HasOtherMagic, IsNoHeader, OfBody, first_key, seen_at, OfHeader, OfHeaders, HasHeaderCause, AreToldOf, header_of, OfRedoneHeader}
 use Rattle.aria_pager.specs.Slotted.{has_magic, IsHeaded, OfFirst}
 use Rattle.aria_pager.specs.Steps.{damaged_at}
-use Rattle.aria_pager.specs.View.{size_in, count_at, frame_at, body_or, whole_body, body_at, page_bodies, IsTidy}
+use Rattle.aria_pager.specs.View.{size_in, count_at, frame_at, body_or, whole_body, body_at, late_at, page_bodies, IsTidy}
 use Rattle.aria_pager.proofs.Bodies.{Open, open_at, spot_open, table_page}
 use Rattle.aria_pager.proofs.Loading.{zero_past}
 use Rattle.aria_pager.proofs.Slotting.{redo_still}
@@ -77,8 +77,11 @@ pub of_file : (tells : Bool) (store : PageStore) (n : ℕ) (name : List ℕ) (s 
     → OfFirst true page file' end fault → OfHeader tells store n name s t fault
 of_file tells store n name s t page file' end (NotOurs f) named at shown (same, why) = (same ∙ named, λ told. subst HasOtherMagic (sym (shown told ∙ seen_sound page (why refl).0)) (why refl).1)
 of_file tells store n name s t page file' end (PageDamaged f m) named at shown (same, zero, why) = (same ∙ named, zero, λ told. subst IsNoHeader (sym (shown told)) (no_header page (why refl)))
-of_file tells store n name s t page file' end (LogDamaged f m) named at shown (is, why) = (is ∙ ap damaged_at at, λ told.
-    ap (late_seen (next_number store)) (shown told ∙ seen_sound page (why refl).0) ∙ le_true (next_number store) (page_number page) (subst (λ (l : Lsn). lsn_number l ≤ page_number page) at (why refl).1))
+of_file tells store n name s t page file' end (LogDamaged f m) named at shown (is, why) = (
+  is ∙ ap damaged_at at,
+  λ told.
+      ap (late_seen (next_number store)) (shown told ∙ seen_sound page (why refl).0) ∙ le_true (next_number store) (page_number page) (subst (λ (l : Lsn). lsn_number l ≤ page_number page) at (why refl).1),
+)
 of_file tells store n name s t page file' end (Memory e) named at shown why = absurd why
 of_file tells store n name s t page file' end Disk named at shown why = absurd why
 of_file tells store n name s t page file' end Tell named at shown why = absurd why
@@ -252,8 +255,22 @@ module _ (store : PageStore) (s : State) (base : ℕ) (start : Folder) (groups :
         by false off = ap body_of (sym (none_shown (not_less (count_at store Keys (Some n)) off)) ∙ sym first_is ∙ at)
 
     -- IT IS A HEADER
-    pub header_shown : IsHeader body → HasHeader store s.folder name
-    header_shown header = record { body = body; shown = shown; header = header }
+    pub header_shown : IsHeader body → (not (is_some (held store.frames key)) && late_seen (next_number store) (raw store s.folder key)) ≡ false → HasHeader store s.folder name
+    header_shown header early = record {
+      body = body;
+      shown = shown;
+      header = header;
+      early = ap (late_at store s.folder name Keys 0) (slot_found store n name tidy named) ∙ ap (λ (x : Seen). not (is_some (held store.frames key)) && late_seen (next_number store) x) (sym first_raw) ∙ early;
+    }
+
+-- it is held
+pub early_held : (store : PageStore) (folder : Folder) (key : ℕ) (h : Held) → held store.frames key ≡ Some h → (not (is_some (held store.frames key)) && late_seen (next_number store) (raw store folder key)) ≡ false
+early_held store folder key h there = ap (λ (o : Option Held). not (is_some o) && late_seen (next_number store) (raw store folder key)) there
+
+-- it was read, and isn't ahead of the log
+pub early_read : (store : PageStore) (folder : Folder) (key k : ℕ) (body : List ℕ) → held store.frames key ≡ None → seen_at store folder key ≡ Some (k, body) → k < next_number store → (not (is_some (held store.frames key)) && late_seen (next_number store) (raw store folder key)) ≡ false
+early_read store folder key k body none at low = ap (λ (o : Option Held). not (is_some o) && late_seen (next_number store) (raw store folder key)) none
+    ∙ ap (late_seen (next_number store)) (sym (seen_raw store folder key none) ∙ at) ∙ le_false (next_number store) k low
 
 -- the first page of an index file
 pub header_headed : (end : ℕ) (page : List ℕ) → IsHeaded end page → IsHeader (page_body page)
@@ -283,8 +300,14 @@ module _ (store : PageStore) (s t : State) (base : ℕ) (start : Folder) (groups
   redone_header n name Disk named why = inl refl
   redone_header n name (NotOurs f) named (same, why) = inr (name, told_of n name named, same, subst HasOtherMagic (redone_is n name named) (why refl))
   redone_header n name (PageDamaged f p) named (same, zero, why) = inr (name, told_of n name named, same, zero, subst IsNoHeader (redone_is n name named) (why refl))
-  redone_header n name (LogDamaged f p) named (same, why) = inr (name, told_of n name named, end, holds, same ∙ ap (λ (p : ℕ). damaged_at (lsn_at_place p)) at,
-    sym (ap (λ (p : ℕ). late_seen (number_at p) (header_of old groups name)) at) ∙ ap (late_seen (next_number store)) (sym (redone_is n name named)) ∙ why refl)
+  redone_header n name (LogDamaged f p) named (same, why) = inr (
+    name,
+    told_of n name named,
+    end,
+    holds,
+    same ∙ ap (λ (p : ℕ). damaged_at (lsn_at_place p)) at,
+    sym (ap (λ (p : ℕ). late_seen (number_at p) (header_of old groups name)) at) ∙ ap (late_seen (next_number store)) (sym (redone_is n name named)) ∙ why refl,
+  )
   redone_header n name (Memory e) named why = absurd why
   redone_header n name Tell named why = absurd why
   redone_header n name Input named why = absurd why

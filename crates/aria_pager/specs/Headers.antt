@@ -26,7 +26,7 @@ use Rattle.aria_pager.specs.Pager.{next_number}
 use Rattle.aria_pager.specs.Slotted.{has_magic}
 use Rattle.aria_pager.specs.Steps.{damaged_at}
 use Rattle.aria_pager.specs.Entered.{needs_slot}
-use Rattle.aria_pager.specs.View.{page_bodies}
+use Rattle.aria_pager.specs.View.{page_bodies, page_late}
 
 -- ---- headers
 
@@ -35,11 +35,12 @@ pub record IsHeader (body : List ℕ) : Type 0 where
   pub magic : has_magic body ≡ true
   pub kind : slice_index body 0 ≡ kind_byte page_kinds.Header
 
--- the index file of the table begins with a header, as callers see it
+-- the index file of the table begins with a header, as callers see it, that isn't ahead of the log
 pub record HasHeader (store : PageStore) (folder : Folder) (name : List ℕ) : Type 0 where
   pub body : List ℕ
   pub shown : page_bodies store folder (file name Keys) 0 ≡ Some body
   pub header : IsHeader body
+  pub early : page_late store folder (file name Keys) 0 ≡ false
 
 -- THE TABLES THAT HAVE SLOTS begin with headers.
 abbrev pub HaveHeaders : PageStore → Folder → Type 0

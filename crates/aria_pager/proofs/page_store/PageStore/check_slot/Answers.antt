@@ -4,7 +4,7 @@ use Rattle.aria_cache.specs.Frames.{Held, held, shown}
 use Rattle.aria_host.proofs.Answered.{on_ok, on_ok_of}
 use Rattle.aria_pager.proofs.Again.{if_err_more}
 use Rattle.aria_pager.specs.Headers.{IsHeader, first_key, OfHeader}
-use Rattle.aria_pager.proofs.Heading.{of_held, header_cause, header_shown, seen_held}
+use Rattle.aria_pager.proofs.Heading.{early_held, of_held, header_cause, header_shown, seen_held}
 use Rattle.aria_pager.proofs.page_store.PageStore.check_slot.Goals as goal
 
 pub returns-in-Some-clause-cause : goal.returns-in-Some-clause-cause
@@ -27,7 +27,7 @@ returns-in-Some-clause-header g c = λ told. on_ok c.check_header.result _ (λ o
     let value : c.body.result.now ≡ h.body = c.body.ensures.value ∙ ap page_body c.deref.ensures in
     header_shown store s base start groups forced (g.met.H.Host.reads_now c.args.host.now told) c.requires.empty is c.args.n c.args.name.now c.requires.named c.requires.tidy h.lsn h.body
     (seen_held store s.folder (first_key c.args.n) h there) (sym (ap (λ (l : List ℕ). length l) value) ∙ c.body.ensures.len)
-    (subst IsHeader value (on_ok_of c.check_header.result _ c.check_header.ensures.header on)))
+    (subst IsHeader value (on_ok_of c.check_header.result _ c.check_header.ensures.header on)) (early_held store s.folder (first_key c.args.n) h there))
 
 pub check_file-requires-clause-absent : goal.check_file-requires-clause-absent
 check_file-requires-clause-absent g c = ap (held c.args.self.now.frames) (sym c.key.ensures) ∙ sym c.in-None.ensures
