@@ -29,4 +29,5 @@ pub mod PartsAt
 pub mod ReadPages
 pub mod OnPages
 pub mod RowRead
+pub mod Deleted
 mod Worked

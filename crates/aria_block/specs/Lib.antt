@@ -13,3 +13,4 @@ pub mod Causes
 pub mod HoldsRows
 pub mod Storing
 pub mod Reading
+pub mod Deleting

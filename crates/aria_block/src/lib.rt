@@ -13,6 +13,7 @@ mod blob;
 mod blob_run;
 mod codes;
 mod cut;
+mod deleting;
 mod finding;
 mod growing;
 mod head_fields;
