@@ -7,6 +7,7 @@ ghost use Rattle.aria_pager.specs.Usable.{IsUsable};
 mod crashes;
 mod faults;
 mod frames;
+mod headers;
 mod looking;
 mod reopened;
 mod tables;

@@ -55,7 +55,7 @@ fn a_failed_write_is_answered_again(rt: HostRuntime) -> Result<(), Fail> {
 }
 
 // A folder with a table that has page 1, as it was closed.
-fn closed(alloc: Global, name: &Name) -> Result<MemHost, Fault> {
+pub(super) fn closed(alloc: Global, name: &Name) -> Result<MemHost, Fault> {
     let _file = FileName::Control;
     let mut host = MemHost::new(alloc);
     let mut store = open(alloc, &mut host)?;
