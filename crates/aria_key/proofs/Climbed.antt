@@ -11,7 +11,7 @@ use Rattle.aria_keypage.specs.Content.{item_bytes}
 use Rattle.aria_keypage.specs.Change.{with_item, node_of_one}
 use Rattle.aria_keypage.proofs.Sizes.{with_item-longer, halves-least}
 use Rattle.aria_key.specs.declared.path.TheConstants.{MAX_LEVELS}
-use Rattle.aria_key.specs.Tree.{Placed, name_of, names, Rising, IsLevel, Filled, kind_over, is_top, Holds, HasTree}
+use Rattle.aria_key.specs.Tree.{Placed, name_of, names, Rising, IsLevel, Filled, kind_over, is_top, Holds, IsTree, HasTree}
 use Rattle.aria_key.specs.Climb.{above, FilledOver, IsChild, onto}
 use Rattle.aria_key.specs.Held.{left_with, right_with, Rewritten, IsPutInHalf}
 use Rattle.aria_key.specs.Owned.{times_on, times_in}
@@ -43,9 +43,10 @@ climbed file old new count more key root u l us downs walk n page at fresh x bet
     upward file old new count more key root u l us downs walk n page at fresh x between s c h grows low unused (some-right p.content h.k least.1) enough
 
 -- the page above has room, and the tree is whole
-pub paid : (file : FileName) (old new : Bodies) (count more key root : ℕ) (u l : List Placed) (us downs : List (List Placed)) (walk : List Item) (n page at : ℕ) (x : Item) → Standing (old file) count key root (u ∷ us) l downs walk n x → FilledOver (u ∷ us) → (c : IsChild u n page at)
-    → Rewritten file page (with_item c.here.content at x) old new → count ≤ more → length us + 2 + length downs ≤ MAX_LEVELS → HasTree (new file) more key root walk
-paid file old new count more key root u l us downs walk n page at x s filled c w grows few =
+pub paid-tree : (file : FileName) (old new : Bodies) (count more key root : ℕ) (u l : List Placed) (us downs : List (List Placed)) (walk : List Item) (n page at : ℕ) (x : Item) → Standing (old file) count key root (u ∷ us) l downs walk n x → FilledOver (u ∷ us) → (c : IsChild u n page at)
+    → Rewritten file page (with_item c.here.content at x) old new → count ≤ more → length us + 2 + length downs ≤ MAX_LEVELS
+    → IsTree (new file) more key root (onto us ((c.before ++ holding c.here (with_item c.here.content at x) ∷ c.behind) ∷ l ∷ downs)) walk
+paid-tree file old new count more key root u l us downs walk n page at x s filled c w grows few =
     let a : List Placed = c.before in
     let b : List Placed = c.behind in
     let p : Placed = c.here in
@@ -61,35 +62,37 @@ paid file old new count more key root u l us downs walk n page at x s filled c w
     let one = s.once p.page in
     let held : AllByRecursion (Holds (old file) count) (a ++ p ∷ b) = subst (AllByRecursion (Holds (old file) count)) c.parts s.hold_ups.0 in
     record {
-      levels = onto us (v ∷ l ∷ downs);
-      tree = record {
-        some = omega (arith, length-onto us (v ∷ l ∷ downs));
-        few = omega (arith, length-onto us (v ∷ l ∷ downs), few);
-        under = closed key root us v (l ∷ downs) walk done.over done.filled done.under;
-        hold = onto-all (AllByRecursion (Holds (new file) more)) us (v ∷ l ∷ downs)
-            (frame-levels file p.page (with_item p.content at x) old new count more us here grows (off-levels p.page us (omega (arith, one, parts p.page, self))) s.hold_ups.1) (
-              all-append (Holds (new file) more) a (q ∷ b)
-                  (frame file p.page (with_item p.content at x) old new count more a here grows (off-level p.page a (omega (arith, one, parts p.page, self))) (all-left (Holds (old file) count) a (p ∷ b) held)) (
-                    written file (with_item p.content at x) old new count more p here grows (all-right (Holds (old file) count) a (p ∷ b) held).0,
-                    frame file p.page (with_item p.content at x) old new count more b here grows (off-level p.page b (omega (arith, one, parts p.page, self))) (all-right (Holds (old file) count) a (p ∷ b) held).1,
-                  ),
-              frame-levels file p.page (with_item p.content at x) old new count more (l ∷ downs) here grows (off-levels p.page (l ∷ downs) (omega (arith, one, parts p.page, self))) s.hold,
-            );
-      };
+      some = omega (arith, length-onto us (v ∷ l ∷ downs));
+      few = omega (arith, length-onto us (v ∷ l ∷ downs), few);
+      under = closed key root us v (l ∷ downs) walk done.over done.filled done.under;
+      hold = onto-all (AllByRecursion (Holds (new file) more)) us (v ∷ l ∷ downs)
+          (frame-levels file p.page (with_item p.content at x) old new count more us here grows (off-levels p.page us (omega (arith, one, parts p.page, self))) s.hold_ups.1) (
+            all-append (Holds (new file) more) a (q ∷ b)
+                (frame file p.page (with_item p.content at x) old new count more a here grows (off-level p.page a (omega (arith, one, parts p.page, self))) (all-left (Holds (old file) count) a (p ∷ b) held)) (
+                  written file (with_item p.content at x) old new count more p here grows (all-right (Holds (old file) count) a (p ∷ b) held).0,
+                  frame file p.page (with_item p.content at x) old new count more b here grows (off-level p.page b (omega (arith, one, parts p.page, self))) (all-right (Holds (old file) count) a (p ∷ b) held).1,
+                ),
+            frame-levels file p.page (with_item p.content at x) old new count more (l ∷ downs) here grows (off-levels p.page (l ∷ downs) (omega (arith, one, parts p.page, self))) s.hold,
+          );
     }
 
+pub paid : (file : FileName) (old new : Bodies) (count more key root : ℕ) (u l : List Placed) (us downs : List (List Placed)) (walk : List Item) (n page at : ℕ) (x : Item) → Standing (old file) count key root (u ∷ us) l downs walk n x → FilledOver (u ∷ us) → (c : IsChild u n page at)
+    → Rewritten file page (with_item c.here.content at x) old new → count ≤ more → length us + 2 + length downs ≤ MAX_LEVELS → HasTree (new file) more key root walk
+paid file old new count more key root u l us downs walk n page at x s filled c w grows few = record { levels = _; tree = paid-tree file old new count more key root u l us downs walk n page at x s filled c w grows few }
+
 -- a new root names both pages of the level that was the root, and the tree is whole
+pub rooted-tree : (file : FileName) (old new : Bodies) (count more key root fresh : ℕ) (l : List Placed) (downs : List (List Placed)) (walk : List Item) (n : ℕ) (x : Item) → Standing (old file) count key root [] l downs walk n x → Rewritten file fresh (node_of_one key root x) old new → count ≤ more → fresh < more
+    → times_in fresh (l ∷ downs) ≡ 0 → 2 + length downs ≤ MAX_LEVELS → IsTree (new file) more key fresh ((record { low = []; page = fresh; content = node_of_one key root x } ∷ []) ∷ l ∷ downs) walk
+rooted-tree file old new count more key root fresh l downs walk n x s w grows low unused few = record {
+  some = omega arith;
+  few = omega (arith, few);
+  under = new-root key root fresh l downs walk n x s.owes;
+  hold = (
+    (record { low = low; body = w.here.body; there = w.here.there; size = w.here.size; spells = w.here.spells }, tt),
+    frame-levels file fresh (node_of_one key root x) old new count more (l ∷ downs) w grows (off-levels fresh (l ∷ downs) (omega (arith, unused))) s.hold,
+  );
+}
+
 pub rooted : (file : FileName) (old new : Bodies) (count more key root fresh : ℕ) (l : List Placed) (downs : List (List Placed)) (walk : List Item) (n : ℕ) (x : Item) → Standing (old file) count key root [] l downs walk n x → Rewritten file fresh (node_of_one key root x) old new → count ≤ more → fresh < more
     → times_in fresh (l ∷ downs) ≡ 0 → 2 + length downs ≤ MAX_LEVELS → HasTree (new file) more key fresh walk
-rooted file old new count more key root fresh l downs walk n x s w grows low unused few = record {
-  levels = (record { low = []; page = fresh; content = node_of_one key root x } ∷ []) ∷ l ∷ downs;
-  tree = record {
-    some = omega arith;
-    few = omega (arith, few);
-    under = new-root key root fresh l downs walk n x s.owes;
-    hold = (
-      (record { low = low; body = w.here.body; there = w.here.there; size = w.here.size; spells = w.here.spells }, tt),
-      frame-levels file fresh (node_of_one key root x) old new count more (l ∷ downs) w grows (off-levels fresh (l ∷ downs) (omega (arith, unused))) s.hold,
-    );
-  };
-}
+rooted file old new count more key root fresh l downs walk n x s w grows low unused few = record { levels = _; tree = rooted-tree file old new count more key root fresh l downs walk n x s w grows low unused few }

@@ -50,10 +50,10 @@ between-parts entry items at r is =
         (up, all-weaker (λ z. is_below u.entry z.entry ≡ true) (λ z. is_below entry z.entry ≡ true) us (λ z q. below-trans entry u.entry z.entry up q) (rising-right lower (u ∷ us) (subst Rising e r)).0)
 
 -- the tree after an item was put into the leaf that was found
-pub leaf-put : (file : FileName) (old new : Bodies) (count more key root : ℕ) (x : Item) (levels : List (List Placed)) (walk : List Item) (page at : ℕ) (path : List Passed) → IsTree (old file) count key root levels walk → ((n : ℕ) → times_in n levels ≤ 1) → count ≤ more
+pub leaf-put-tree : (file : FileName) (old new : Bodies) (count more key root : ℕ) (x : Item) (levels : List (List Placed)) (walk : List Item) (page at : ℕ) (path : List Passed) → IsTree (old file) count key root levels walk → ((n : ℕ) → times_in n levels ≤ 1) → count ≤ more
     → (f : IsFound (old file) count key root x.entry levels walk page at false path) → Rewritten file page (with_item f.on.here.content at x) old new
-    → HasTree (new file) more key root (with_entry x walk)
-leaf-put file old new count more key root x levels walk page at path t once grows f w =
+    → IsTree (new file) more key root (onto f.ups ((f.on.before ++ holding f.on.here (with_item f.on.here.content at x) ∷ f.on.behind) ∷ [])) (with_entry x walk)
+leaf-put-tree file old new count more key root x levels walk page at path t once grows f w =
     let p : Placed = f.on.here in
     let a : List Placed = f.on.before in
     let b : List Placed = f.on.behind in
@@ -82,27 +82,29 @@ leaf-put file old new count more key root x levels walk page at path t once grow
     let leaves : AllByRecursion (Holds (old file) count) (a ++ p ∷ b) = subst (AllByRecursion (Holds (old file) count)) f.on.parts held.1.0 in
     let rewritten : Rewritten file n (with_item p.content at x) old new = subst (λ (m : ℕ). Rewritten file m (with_item p.content at x) old new) (sym f.on.page_is) w in
     record {
-      levels = onto f.ups ((a ++ q ∷ b) ∷ []);
-      tree = record {
-        some = omega (arith, length-onto f.ups ((a ++ q ∷ b) ∷ []));
-        few = omega (arith, length-onto f.ups ((a ++ q ∷ b) ∷ []), length-onto f.ups (f.leaves ∷ []), ap length f.whole, t.few);
-        under = closed key root f.ups (a ++ q ∷ b) [] (with_entry x walk) f.over f.filled (
-          put.level,
-          (λ r. let old : Filled (a ++ p ∷ b) = subst Filled f.on.parts (f.under.1 r) in
-              filled-instead a b p (q ∷ []) old (omega (arith, longer, (all-right (λ r. 2045 ≤ length (item_bytes r.content)) a (p ∷ b) old).0), tt)),
-          now,
-        );
-        hold = onto-all (AllByRecursion (Holds (new file) more)) f.ups ((a ++ q ∷ b) ∷ [])
-            (frame-levels file n (with_item p.content at x) old new count more f.ups rewritten grows (off-levels n f.ups (omega (arith, parts, self, one))) held.0) (
-              all-append (Holds (new file) more) a (q ∷ b)
-                  (frame file n (with_item p.content at x) old new count more a rewritten grows (off-level n a (omega (arith, parts, self, one))) (all-left (Holds (old file) count) a (p ∷ b) leaves)) (
-                    written file (with_item p.content at x) old new count more p rewritten grows (all-right (Holds (old file) count) a (p ∷ b) leaves).0,
-                    frame file n (with_item p.content at x) old new count more b rewritten grows (off-level n b (omega (arith, parts, self, one))) (all-right (Holds (old file) count) a (p ∷ b) leaves).1,
-                  ),
-              tt,
-            );
-      };
+      some = omega (arith, length-onto f.ups ((a ++ q ∷ b) ∷ []));
+      few = omega (arith, length-onto f.ups ((a ++ q ∷ b) ∷ []), length-onto f.ups (f.leaves ∷ []), ap length f.whole, t.few);
+      under = closed key root f.ups (a ++ q ∷ b) [] (with_entry x walk) f.over f.filled (
+        put.level,
+        (λ r. let old : Filled (a ++ p ∷ b) = subst Filled f.on.parts (f.under.1 r) in
+            filled-instead a b p (q ∷ []) old (omega (arith, longer, (all-right (λ r. 2045 ≤ length (item_bytes r.content)) a (p ∷ b) old).0), tt)),
+        now,
+      );
+      hold = onto-all (AllByRecursion (Holds (new file) more)) f.ups ((a ++ q ∷ b) ∷ [])
+          (frame-levels file n (with_item p.content at x) old new count more f.ups rewritten grows (off-levels n f.ups (omega (arith, parts, self, one))) held.0) (
+            all-append (Holds (new file) more) a (q ∷ b)
+                (frame file n (with_item p.content at x) old new count more a rewritten grows (off-level n a (omega (arith, parts, self, one))) (all-left (Holds (old file) count) a (p ∷ b) leaves)) (
+                  written file (with_item p.content at x) old new count more p rewritten grows (all-right (Holds (old file) count) a (p ∷ b) leaves).0,
+                  frame file n (with_item p.content at x) old new count more b rewritten grows (off-level n b (omega (arith, parts, self, one))) (all-right (Holds (old file) count) a (p ∷ b) leaves).1,
+                ),
+            tt,
+          );
     }
+
+pub leaf-put : (file : FileName) (old new : Bodies) (count more key root : ℕ) (x : Item) (levels : List (List Placed)) (walk : List Item) (page at : ℕ) (path : List Passed) → IsTree (old file) count key root levels walk → ((n : ℕ) → times_in n levels ≤ 1) → count ≤ more
+    → (f : IsFound (old file) count key root x.entry levels walk page at false path) → Rewritten file page (with_item f.on.here.content at x) old new
+    → HasTree (new file) more key root (with_entry x walk)
+leaf-put file old new count more key root x levels walk page at path t once grows f w = record { levels = _; tree = leaf-put-tree file old new count more key root x levels walk page at path t once grows f w }
 
 -- what the leaf holds that was found
 pub leaf-holds : (bodies : ℕ → Option (List ℕ)) (count key root : ℕ) (entry : List ℕ) (levels : List (List Placed)) (walk : List Item) (page at : ℕ) (same : Bool) (path : List Passed) → (f : IsFound bodies count key root entry levels walk page at same path) → HasContent bodies page f.on.here.content

@@ -32,3 +32,13 @@ pub mod Stepping
 pub mod Going
 pub mod Arriving
 pub mod Fronts
+pub mod Spare
+pub mod Ascending
+pub mod Regrowing
+pub mod Filing
+pub mod Sparing
+pub mod Levels
+pub mod Adding
+pub mod Cramped
+pub mod Grafting
+pub mod Keeping

@@ -1,5 +1,5 @@
 -- Lists in pieces, and what holds of each of their elements.
-use Rattle.std.proofs.Common.{◌≡◌, List, [], ◌∷◌, ◌++◌, map, refl, ap, subst, ℕ, ◌+◌, ◌<◌, length, drop, sym, ◌∙◌, add-one, drop-cons}
+use Rattle.std.proofs.Common.{◌≡◌, List, [], ◌∷◌, ◌++◌, map, refl, ap, subst, ℕ, zero, suc, ◌+◌, ◌<◌, arith, length, drop, sym, ◌∙◌, add-one, drop-cons}
 use Rattle.std.specs.List.{AllByRecursion}
 use Rattle.aria_keypage.specs.Item.{Item, item_at}
 
@@ -57,3 +57,9 @@ all-at P xs y ys l e p = (all-right P xs (y ∷ ys) (subst (AllByRecursion P) e 
 
 pub drop-at : (xs : List Item) (at : ℕ) → at < length xs → drop at xs ≡ item_at xs at ∷ drop (at + 1) xs
 drop-at xs at h = drop-cons xs at (record { entry = []; to = 0 }) h ∙ ap (λ (n : ℕ). item_at xs at ∷ drop n xs) (sym (add-one at))
+
+-- what holds of each item
+pub all-item : (P : Item → Type 0) (xs : List Item) (at : ℕ) → at < length xs → AllByRecursion P xs → P (item_at xs at)
+all-item P [] at low h = absurd (omega (arith, low))
+all-item P (x ∷ xs) zero low h = h.0
+all-item P (x ∷ xs) (suc at) low h = all-item P xs at (omega (arith, low)) h.1

@@ -25,7 +25,7 @@ width-most Leaf = omega arith
 width-most Node = omega arith
 
 -- wherever an item is put, the page grows by no more than this
-grown-most : (c : Content) (at : ℕ) (x : Item) → at ≤ length c.items → length x.entry ≤ 1000 → length (item_bytes (with_item c at x)) ≤ length (item_bytes c) + 1263
+pub grown-most : (c : Content) (at : ℕ) (x : Item) → at ≤ length c.items → length x.entry ≤ 1000 → length (item_bytes (with_item c at x)) ≤ length (item_bytes c) + 1263
 grown-most c at x h short = elim (cases_lt at (length c.items)) as (λ _. length (item_bytes (with_item c at x)) ≤ length (item_bytes c) + 1263) [
   | inl lt ↦
       let p : List ℕ = entry_before c.items at in

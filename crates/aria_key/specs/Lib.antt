@@ -6,6 +6,10 @@ pub mod Held
 pub mod Place
 pub mod Owned
 pub mod IndexFile
+pub mod Taking
+pub mod Header
+pub mod Ascent
+pub mod Inserting
 pub mod Rest
 pub mod Standing
 pub mod Reading

@@ -1,6 +1,6 @@
 //! The way from the root down to a leaf.
 
-ghost use Rattle.std.specs.Prelude.{◌≡◌, ℕ, List, IsTrue, IfOk};
+ghost use Rattle.std.specs.Prelude.{◌≡◌, ℕ, List, length, IsTrue, IfOk};
 ghost use Rattle.aria_keypage.specs.Item.{Item};
 ghost use Rattle.aria_cache.specs.Calls.{Loads, fault_of, Answers};
 ghost use Rattle.aria_cache.specs.Causes.{HasPagesCause};
@@ -42,6 +42,7 @@ pub fn find<P: Pages>(
     ensures found { IsTrue P.tells → (key : ℕ) → (levels : List (List Placed)) → (walk : List Item)
         → IsTree ((P.state pages.old).bodies (keys_file (P.state pages.old) slot)) ((P.state pages.old).counts (keys_file (P.state pages.old) slot)) key root levels walk
         → IfOk result (λ r. IsFound ((P.state pages.old).bodies (keys_file (P.state pages.old) slot)) ((P.state pages.old).counts (keys_file (P.state pages.old) slot)) key root entry.now levels walk r.page r.at r.same (passed r.path)) }
+    ensures len { IfOk result (λ r. r.path.len ≡ length (passed r.path)) }
     ensures answers { Answers (P.state pages.old) (P.state pages.new) (fault_of result) }
     ensures cause { HasPagesCause (OfTree P.tells P.logged (HasRoot (P.state pages.old) (keys_file (P.state pages.old) slot) root) (keys_file (P.state pages.old) slot) (P.state pages.old) (P.state pages.new)) (P.state pages.old) (P.state pages.new) (fault_of result) }
 {

@@ -1,6 +1,6 @@
 //! The way from a root down to a leaf.
 
-ghost use Rattle.std.specs.Prelude.{◌≡◌, ◌+◌, ◌<◌, [], ◌∷◌, ◌++◌, MatchOption};
+ghost use Rattle.std.specs.Prelude.{◌≡◌, ◌+◌, ◌<◌, [], ◌∷◌, ◌++◌, ◌≤◌, MatchOption, IfSome};
 ghost use Rattle.aria_key.specs.Path.{passed};
 
 /// The most levels of a tree that are read.
@@ -48,6 +48,13 @@ impl Path {
         Some(self.steps[len - 1])
     }
 
+    // How many nodes were passed.
+    pub(crate) fn len(&self) -> usize
+        ensures { result ≡ self.now.len }
+    {
+        self.len
+    }
+
     // The way goes on through this child of a node.
     pub(crate) fn push(&mut self, step: Passed)
         requires { self.old.len < MAX_LEVELS }
@@ -56,5 +63,18 @@ impl Path {
     {
         self.steps[self.len] = step;
         self.len += 1;
+    }
+
+    // The last step of the way, which then ends before it; none at the root.
+    pub(crate) fn pop(&mut self) -> Option<Passed>
+        requires { self.old.len ≤ MAX_LEVELS }
+        ensures passed { MatchOption result ((passed self.old ≡ []) × (self.new ≡ self.old)) (λ step. passed self.old ≡ passed self.new ++ step ∷ []) }
+        ensures len { IfSome result (λ step. self.old.len ≡ self.new.len + 1) }
+    {
+        if self.len == 0 {
+            return None;
+        }
+        self.len -= 1;
+        Some(self.steps[self.len])
     }
 }
