@@ -1,23 +1,23 @@
 -- An entry that is put into a tree: what is asked of the file serves each call on the way.
-use Rattle.std.proofs.Common.{◌≡◌, ◌≢◌, ◌⊎◌, inl, inr, ℕ, zero, suc, ◌+◌, ◌<◌, ◌≤◌, ◌^◌, ◌&&◌, Bool, true, false, cond, List, [], ◌∷◌, ◌++◌, length, IsTrue, refl, sym, ap, subst, ◌∙◌, arith, length-append}
+use Rattle.std.proofs.Common.{◌≡◌, ◌≢◌, ◌⊎◌, inl, inr, ℕ, ◌<◌, ◌≤◌, ◌^◌, ◌&&◌, Bool, true, false, List, [], ◌∷◌, ◌++◌, length, IsTrue, refl, sym, ap, subst, ◌∙◌, arith, length-append}
 use Rattle.std.specs.Prelude.{Option, Some, None, IsSome, Ok, Err, OnOk, Result}
 use Rattle.std.proofs.Common.{rules}
 use Rattle.std.specs.List.{AllByRecursion}
-use Rattle.std.proofs.lemmas.Bool.{eq-eqb, ne_eqb}
+use Rattle.std.proofs.lemmas.Bool.{ne_eqb}
 use Rattle.aria_page.specs.declared.page.TheConstants.{BODY_BYTES}
 use Rattle.aria_host.specs.declared.file_name.FileName.{FileName}
 use Rattle.aria_host.proofs.Files.{same_file-refl}
 use Rattle.aria_cache.specs.PageState.{PageState, Bodies, with_count}
 use Rattle.aria_keypage.specs.declared.kind.Kind.{Kind}
 use Rattle.aria_keypage.specs.declared.kind.Kind.TheVariants.{Leaf}
-use Rattle.aria_keypage.specs.Item.{Item, item_at}
+use Rattle.aria_keypage.specs.Item.{Item}
 use Rattle.aria_keypage.specs.Merge.{taken_over}
 use Rattle.aria_key.specs.declared.path.Passed.{Passed}
 use Rattle.aria_key.specs.Tree.{Placed, items_of, items_on, IsOf, IsTree}
 use Rattle.aria_key.specs.Climb.{IsPath}
 use Rattle.aria_key.specs.Place.{IsFound}
 use Rattle.aria_key.specs.Owned.{with_entry}
-use Rattle.aria_key.specs.IndexFile.{root_in, free_in, with_root, with_free, IsChain, IsTreeOf, times_free, IsIndexFile, HoldsTrees, with_walk, ChangesRoot}
+use Rattle.aria_key.specs.IndexFile.{root_in, free_in, with_root, with_free, IsChain, IsTreeOf, HoldsTrees, with_walk}
 use Rattle.aria_key.specs.Taking.{HasSpare, AreApart}
 use Rattle.aria_key.specs.Ascent.{Regrown}
 use Rattle.aria_key.specs.Header.{SetsHeader}
@@ -28,7 +28,7 @@ use Rattle.aria_key.proofs.Descending.{items-append}
 use Rattle.aria_key.proofs.Owning.{length-onto}
 use Rattle.aria_key.proofs.Spare.{left-low, taken-none, all-some, all-times}
 use Rattle.aria_key.proofs.Levels.{twelve}
-use Rattle.aria_key.proofs.Filing.{SaysHeader, says-header, apart-of, Headed, filed}
+use Rattle.aria_key.proofs.Filing.{says-header, apart-of, Headed, filed}
 
 -- an entry that isn't there is not found
 pub absent-same : (bodies : ℕ → Option (List ℕ)) (count key root : ℕ) (entry : List ℕ) (levels : List (List Placed)) (walk : List Item) (page at : ℕ) (same : Bool) (path : List Passed) → IsFound bodies count key root entry levels walk page at same path → IsAbsent entry walk → same ≡ false

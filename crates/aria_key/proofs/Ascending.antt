@@ -1,40 +1,33 @@
 -- A change of a tree on its way up: each step is told by the page of the way and what was placed there.
-use Rattle.std.proofs.Common.{◌≡◌, ◌==◌, ◌&&◌, ℕ, ◌+◌, ◌<◌, ◌≤◌, ◌^◌, max, Bool, true, false, cond, List, [], ◌∷◌, ◌++◌, length, refl, sym, ap, subst, ◌∙◌, arith, length-append}
+use Rattle.std.proofs.Common.{◌≡◌, ◌==◌, ◌&&◌, ℕ, ◌+◌, ◌<◌, ◌≤◌, Bool, false, cond, List, [], ◌∷◌, ◌++◌, length, refl, sym, ap, subst, ◌∙◌, arith, length-append}
 use Rattle.std.specs.Prelude.{Option, None, Some}
-use Rattle.std.specs.List.{AllByRecursion}
 use Rattle.std.proofs.lemmas.Bool.{eq-eqb, ne_eqb}
 use Rattle.aria_host.specs.declared.file_name.FileName.{FileName}
 use Rattle.aria_host.specs.Folder.{same_file}
 use Rattle.aria_host.proofs.Files.{same_file-refl}
 use Rattle.aria_cache.specs.PageState.{PageState, Bodies}
 use Rattle.aria_keypage.specs.declared.key_page.TheConstants.{ITEM_BYTES_MAX}
-use Rattle.aria_keypage.specs.declared.kind.Kind.TheVariants.{Leaf, Node}
+use Rattle.aria_keypage.specs.declared.kind.Kind.TheVariants.{Node}
 use Rattle.aria_keypage.specs.Item.{Item, item_at, IsItem}
 use Rattle.aria_keypage.specs.Content.{Content, item_bytes, width}
-use Rattle.aria_keypage.specs.Change.{with_item, node_of_one, leaf_of_one}
+use Rattle.aria_keypage.specs.Change.{with_item}
 use Rattle.aria_key.specs.declared.path.Passed.{Passed}
-use Rattle.aria_key.specs.declared.path.TheConstants.{MAX_LEVELS}
 use Rattle.aria_key.specs.declared.place.Divided.{Divided}
-use Rattle.aria_key.specs.Tree.{Placed, name_of, IsOf, Holds, HoldAll, IsTree}
-use Rattle.aria_key.specs.Climb.{above, FilledOver, IsChild, IsPath, onto}
-use Rattle.aria_key.specs.Place.{IsFound}
+use Rattle.aria_key.specs.Tree.{Placed, IsOf, Holds}
+use Rattle.aria_key.specs.Climb.{FilledOver, IsChild, IsPath, onto}
 use Rattle.aria_key.specs.Held.{HasContent, left_with, right_with, Rewritten, IsPutInHalf}
-use Rattle.aria_key.specs.Owned.{times_on, times_in, with_entry}
+use Rattle.aria_key.specs.Owned.{times_on, times_in}
 use Rattle.aria_key.specs.Standing.{Standing}
 use Rattle.aria_key.specs.IndexFile.{IsChain, times_free}
-use Rattle.aria_key.specs.Taking.{IsTaken, HasSpare, AreApart, AreTaken}
+use Rattle.aria_key.specs.Taking.{HasSpare, AreApart, AreTaken}
 use Rattle.aria_key.specs.Ascent.{IsPlaced, IsPlaceable, Ascent, Regrown, CanAscend}
 use Rattle.aria_key.proofs.Lists.{all-at, all-item}
 use Rattle.aria_key.proofs.Behind.{same-last}
-use Rattle.aria_key.proofs.Children.{place-within}
 use Rattle.aria_key.proofs.Dividing.{holding, right_of}
 use Rattle.aria_key.proofs.Upward.{halved}
-use Rattle.aria_key.proofs.Owning.{times-append, times-onto, length-onto}
-use Rattle.aria_key.proofs.Climbed.{climbed, paid-tree, rooted-tree}
-use Rattle.aria_key.proofs.Starting.{started}
-use Rattle.aria_key.proofs.Leaf.{leaf-put-tree, leaf-holds}
-use Rattle.aria_key.proofs.Single.{new-leaf}
-use Rattle.aria_key.proofs.Spare.{chain-still, taken-none, all-once, all-low, left-low, TookOne, took-one, all-times}
+use Rattle.aria_key.proofs.Owning.{times-append, times-onto}
+use Rattle.aria_key.proofs.Climbed.{climbed, paid-tree}
+use Rattle.aria_key.proofs.Spare.{chain-still, all-once, left-low, TookOne, took-one, all-times}
 
 -- a level has a page that stands in it
 pub has-page : (page : ℕ) (u a : List Placed) (p : Placed) (b : List Placed) → u ≡ a ++ p ∷ b → p.page ≡ page → 1 ≤ times_on page u

@@ -1,5 +1,5 @@
 -- An index file after the tree of one key was changed.
-use Rattle.std.proofs.Common.{◌≡◌, ◌≢◌, ◌==◌, ◌&&◌, ◌⊎◌, inl, inr, ℕ, zero, suc, ◌+◌, ◌*◌, ◌<◌, ◌≤◌, ◌^◌, Bool, true, false, cond, List, [], ◌∷◌, ◌++◌, length, take, drop, refl, sym, ap, subst, ◌∙◌, arith, nat_le}
+use Rattle.std.proofs.Common.{◌≡◌, ◌≢◌, ◌==◌, ◌&&◌, ◌⊎◌, inl, inr, ℕ, zero, suc, ◌+◌, ◌*◌, ◌<◌, ◌≤◌, ◌^◌, Bool, true, false, cond, List, [], ◌∷◌, length, drop, refl, sym, ap, subst, ◌∙◌, arith}
 use Rattle.std.specs.Prelude.{Option, Some, nat_lt}
 use Rattle.std.specs.List.{AllByRecursion}
 use Rattle.std.proofs.lemmas.Bool.{cases_lt, eq-eqb, ne_eqb, eqb-true, eqb-false}
@@ -11,17 +11,14 @@ use Rattle.aria_page.specs.Number.{number, number_of}
 use Rattle.aria_page.proofs.Numbers.{length-number, number_of-number, number_of-take}
 use Rattle.aria_page.proofs.Pages.{length-with_bytes, take-with_bytes, drop-with_bytes, drop-with_bytes-behind}
 use Rattle.aria_host.specs.declared.file_name.FileName.{FileName}
-use Rattle.aria_host.specs.Folder.{same_file}
-use Rattle.aria_host.proofs.Files.{same_file-refl}
 use Rattle.aria_cache.specs.PageState.{Bodies}
 use Rattle.aria_keypage.specs.Item.{Item}
 use Rattle.aria_key.specs.Tree.{Placed, Holds, HoldAll, IsTree}
 use Rattle.aria_key.specs.Owned.{times_on, times_in}
-use Rattle.aria_key.specs.IndexFile.{root_in, free_in, with_root, with_free, IsChain, IsTreeOf, times_free, times_all, IsIndexFile, HoldsTrees, with_walk}
-use Rattle.aria_key.specs.Taking.{AreApart, AreTaken}
+use Rattle.aria_key.specs.IndexFile.{root_in, free_in, with_root, with_free, IsChain, IsTreeOf, times_free, times_all, IsIndexFile, with_walk}
+use Rattle.aria_key.specs.Taking.{AreApart}
 use Rattle.aria_key.specs.Ascent.{Regrown}
-use Rattle.aria_key.specs.Header.{SetsHeader}
-use Rattle.aria_key.proofs.Spare.{flag, span, span-under, span-over, span-in, chain-still, all-once, all-low, all-some}
+use Rattle.aria_key.proofs.Spare.{flag, span, span-under, span-over, span-in, chain-still, all-some}
 
 -- ---- the header's numbers
 

@@ -1,7 +1,6 @@
 -- Where a change of a tree begins and ends: a leaf takes an entry, a root is made.
-use Rattle.std.proofs.Common.{◌≡◌, ◌≢◌, ◌==◌, ◌&&◌, ℕ, ◌+◌, ◌<◌, ◌≤◌, ◌^◌, max, Bool, true, false, cond, List, [], ◌∷◌, ◌++◌, length, refl, sym, ap, subst, ◌∙◌, arith, length-append}
-use Rattle.std.specs.Prelude.{Option, None, Some}
-use Rattle.std.specs.List.{AllByRecursion}
+use Rattle.std.proofs.Common.{◌≡◌, ◌≢◌, ℕ, ◌+◌, ◌<◌, ◌≤◌, max, Bool, false, cond, List, [], ◌∷◌, ◌++◌, length, refl, sym, ap, subst, ◌∙◌, arith, length-append}
+use Rattle.std.specs.Prelude.{None, Some}
 use Rattle.std.proofs.lemmas.Bool.{eq-eqb}
 use Rattle.aria_host.specs.declared.file_name.FileName.{FileName}
 use Rattle.aria_cache.specs.PageState.{PageState, Bodies}
@@ -12,8 +11,8 @@ use Rattle.aria_keypage.specs.Content.{Content, item_bytes}
 use Rattle.aria_keypage.specs.Change.{with_item, node_of_one, leaf_of_one}
 use Rattle.aria_key.specs.declared.path.Passed.{Passed}
 use Rattle.aria_key.specs.declared.place.Divided.{Divided}
-use Rattle.aria_key.specs.Tree.{Placed, name_of, IsOf, Holds, IsTree}
-use Rattle.aria_key.specs.Climb.{above, IsPath, onto}
+use Rattle.aria_key.specs.Tree.{Placed, IsOf, Holds, IsTree}
+use Rattle.aria_key.specs.Climb.{IsPath, onto}
 use Rattle.aria_key.specs.Place.{IsFound}
 use Rattle.aria_key.specs.Held.{HasContent, left_with, right_with, Rewritten, IsPutInHalf}
 use Rattle.aria_key.specs.Owned.{times_on, times_in, with_entry}
@@ -24,14 +23,14 @@ use Rattle.aria_key.specs.Ascent.{IsPlaced, IsPlaceable, Ascent, Regrown, CanAsc
 use Rattle.aria_key.specs.Inserting.{IsOpenTo, CanAdd}
 use Rattle.aria_key.proofs.Lists.{all-at}
 use Rattle.aria_key.proofs.Children.{place-within}
-use Rattle.aria_key.proofs.Dividing.{holding, right_of}
+use Rattle.aria_key.proofs.Dividing.{holding}
 use Rattle.aria_key.proofs.Upward.{halved}
-use Rattle.aria_key.proofs.Owning.{times-append, times-onto, length-onto}
+use Rattle.aria_key.proofs.Owning.{times-onto, length-onto}
 use Rattle.aria_key.proofs.Climbed.{rooted-tree}
 use Rattle.aria_key.proofs.Starting.{started}
 use Rattle.aria_key.proofs.Leaf.{leaf-put-tree, leaf-holds}
 use Rattle.aria_key.proofs.Single.{new-leaf}
-use Rattle.aria_key.proofs.Spare.{chain-still, taken-none, all-once, all-low, left-low, TookOne, took-one, all-times}
+use Rattle.aria_key.proofs.Spare.{chain-still, taken-none, all-once, left-low, TookOne, took-one, all-times}
 use Rattle.aria_key.proofs.Ascending.{has-page, same-times, more-times, other-page, between-short}
 use Rattle.aria_key.proofs.Levels.{twelve}
 use Rattle.aria_key.proofs.Adding.{absent-same, path-few, open-tree}

@@ -1,12 +1,12 @@
 -- Pages that are taken: what is left of the free ones, and that nothing has a page twice.
-use Rattle.std.proofs.Common.{◌≡◌, ◌==◌, ◌&&◌, ℕ, ◌+◌, ◌<◌, ◌≤◌, max, Bool, true, false, cond, Option, List, [], ◌∷◌, refl, sym, ap, subst, ◌∙◌, arith, nat_le, inl, inr}
+use Rattle.std.proofs.Common.{◌≡◌, ◌==◌, ◌&&◌, ℕ, ◌+◌, ◌<◌, ◌≤◌, max, Bool, true, false, cond, Option, List, [], ◌∷◌, refl, ap, ◌∙◌, arith, nat_le, inl, inr}
 use Rattle.std.specs.Prelude.{nat_lt}
 use Rattle.std.specs.List.{AllByRecursion}
-use Rattle.std.proofs.lemmas.Bool.{cases_lt, eq-eqb, ne_eqb, eqb-true}
+use Rattle.std.proofs.lemmas.Bool.{cases_lt, eq-eqb, eqb-true}
 use Rattle.std.proofs.lemmas.Bool.Decides.{nat_tests}
 use Rattle.aria_key.specs.Tree.{Placed}
 use Rattle.aria_key.specs.Owned.{times_in}
-use Rattle.aria_key.specs.IndexFile.{IsFree, IsChain, times_free}
+use Rattle.aria_key.specs.IndexFile.{IsChain, times_free}
 use Rattle.aria_key.specs.Taking.{IsTaken, AreApart, AreTaken}
 
 abbrev pub flag : Bool → ℕ

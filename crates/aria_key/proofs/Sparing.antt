@@ -1,5 +1,5 @@
 -- Calls that take pages, and files that grow by them.
-use Rattle.std.proofs.Common.{◌≡◌, ◌≢◌, ◌⊎◌, inl, inr, ℕ, ◌+◌, ◌*◌, ◌<◌, ◌≤◌, ◌^◌, ◌==◌, ◌&&◌, max, Bool, true, false, cond, Option, Some, None, List, [], ◌∷◌, IsTrue, refl, sym, ap, subst, ◌∙◌, arith}
+use Rattle.std.proofs.Common.{◌≡◌, ◌≢◌, ◌⊎◌, inl, inr, ℕ, ◌+◌, ◌*◌, ◌<◌, ◌≤◌, ◌==◌, ◌&&◌, max, Bool, true, cond, Option, Some, None, List, [], ◌∷◌, IsTrue, refl, sym, ap, subst, ◌∙◌, arith}
 use Rattle.std.specs.Prelude.{IsSome, slice_index, drop}
 use Rattle.std.proofs.Common.{rules}
 use Rattle.std.proofs.lemmas.Option.{same_Some}
@@ -25,7 +25,7 @@ use Rattle.aria_key.specs.Held.{HasContent, Rewritten}
 use Rattle.aria_cache.specs.Causes.{OfPage, HasPagesCause}
 use Rattle.aria_cache.proofs.Causing.{cause_weaker}
 use Rattle.aria_cache.proofs.Growing.{fewer_same}
-use Rattle.aria_key.specs.IndexFile.{IsFree, IsChain, with_root, with_free}
+use Rattle.aria_key.specs.IndexFile.{IsFree, IsChain}
 use Rattle.aria_key.specs.Taking.{IsTaken, IsSpare, IsFreePage, HasSpare, GrowsBy}
 use Rattle.aria_key.specs.Header.{SetsHeader}
 use Rattle.aria_keypage.specs.Content.{Content}

@@ -1,12 +1,12 @@
 -- An entry that is put into the tree of a key.
-use Rattle.std.specs.Prelude.{◌≡◌, ◌≢◌, ◌⊎◌, ⊤, ℕ, ◌+◌, ◌<◌, ◌≤◌, ◌^◌, Bool, false, IsTrue, List, length, Option, Some, Result, Ok, Err}
+use Rattle.std.specs.Prelude.{◌≡◌, ◌≢◌, ◌⊎◌, ⊤, ℕ, ◌+◌, ◌<◌, ◌≤◌, ◌^◌, Bool, false, List, length, Option, Some, Result, Ok, Err}
 use Rattle.std.specs.List.{AllByRecursion}
 use Rattle.aria_host.specs.declared.file_name.FileName.{FileName}
 use Rattle.aria_cache.specs.declared.row_fault.RowFault.{RowFault}
 use Rattle.aria_cache.specs.declared.row_fault.RowFault.TheVariants as why
-use Rattle.aria_cache.specs.PageState.{PageState, Bodies}
+use Rattle.aria_cache.specs.PageState.{PageState}
 use Rattle.aria_keypage.specs.Item.{Item}
-use Rattle.aria_key.specs.Tree.{Placed, IsTree}
+use Rattle.aria_key.specs.Tree.{Placed}
 use Rattle.aria_key.specs.Owned.{with_entry}
 use Rattle.aria_key.specs.IndexFile.{root_in, free_in, IsChain, IsTreeOf, IsIndexFile, HoldsTrees, with_walk, ChangesRoot}
 use Rattle.aria_key.specs.Taking.{AreApart}

@@ -1,5 +1,4 @@
-use Rattle.std.proofs.Common.{◌≡◌, ◌∙◌, List, ℕ, ap, sym}
-use Rattle.std.specs.Prelude.{Some}
+use Rattle.std.proofs.Common.{◌≡◌}
 use Rattle.aria_page.specs.declared.place.Part.TheVariants.{Keys}
 use Rattle.aria_cache.specs.PageState.{PageState, table_file}
 use Rattle.aria_keypage.specs.Item.{Item}

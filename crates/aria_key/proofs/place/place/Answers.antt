@@ -5,7 +5,7 @@ use Rattle.aria_cache.specs.PageState.{PageState, Counts, table_file}
 use Rattle.aria_keypage.specs.Item.{Item}
 use Rattle.aria_key.specs.Held.{Takes}
 use Rattle.aria_key.specs.Ascent.{IsPlaceable, IsCramped}
-use Rattle.aria_key.specs.Reading.{keys_file, OfKeyPage, OfTree}
+use Rattle.aria_key.specs.Reading.{keys_file, OfKeyPage}
 use Rattle.aria_key.proofs.Later.{Went, went}
 use Rattle.aria_key.proofs.Sparing.{tree_later, held_then}
 use Rattle.aria_key.proofs.Cramped.{cramped-then, half-then, chain-then, taken-then, low-then, count-then}

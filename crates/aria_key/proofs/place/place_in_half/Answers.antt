@@ -1,9 +1,8 @@
-use Rattle.std.proofs.Common.{◌≡◌, ◌∙◌, ◌+◌, ap, max}
+use Rattle.std.proofs.Common.{◌≡◌}
 use Rattle.std.proofs.lemmas.Result.{err_from_is_err_and}
 use Rattle.aria_page.specs.declared.place.Part.TheVariants.{Keys}
-use Rattle.aria_cache.specs.PageState.{PageState, Counts, table_file}
+use Rattle.aria_cache.specs.PageState.{PageState, table_file}
 use Rattle.aria_keypage.specs.Item.{Item}
-use Rattle.aria_key.specs.Held.{HasContent}
 use Rattle.aria_key.specs.Taking.{HasSpare}
 use Rattle.aria_key.specs.Ascent.{IsCramped}
 use Rattle.aria_key.specs.Reading.{keys_file, OfTree, IsOverfull}
