@@ -5,6 +5,7 @@ ghost use Rattle.aria_pager.specs.PageStore.{name_at};
 ghost use Rattle.aria_pager.specs.Usable.{IsUsable};
 
 mod crashes;
+mod evictions;
 mod faults;
 mod frames;
 mod headers;
@@ -212,6 +213,17 @@ fn crash(alloc: Global, host: &mut MemHost, fates: &str) -> Result<(), AllocErro
     let mut picked = List::new(alloc);
     for letter in fates.as_bytes() {
         picked.push(fate_of(*letter))?;
+    }
+    host.crash(&picked)
+}
+
+// A crash in which the unsynced writes have these fates, in their order, and again from the first one on.
+fn crash_in_turn(alloc: Global, host: &mut MemHost, fates: &str) -> Result<(), AllocError> {
+    let mut picked = List::new(alloc);
+    for _nth in 0..200u32 {
+        for letter in fates.as_bytes() {
+            picked.push(fate_of(*letter))?;
+        }
     }
     host.crash(&picked)
 }

@@ -15,7 +15,11 @@ fn is_disk<T: Drop>(answer: Result<T, Fault>) -> bool {
 }
 
 // Opens the folder, makes the table, and fills pages 1 to 64, whose groups are brought to the disk.
-fn start(alloc: Global, host: &mut MemHost, name: &Name) -> Result<(PageStore, List<Lsn>), Fault>
+pub(super) fn start(
+    alloc: Global,
+    host: &mut MemHost,
+    name: &Name,
+) -> Result<(PageStore, List<Lsn>), Fault>
     ensures { IfOk result (λ started. IsUsable started.0 (mem_state host.new)) }
 {
     let _file = FileName::Control;
