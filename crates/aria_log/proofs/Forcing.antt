@@ -78,8 +78,11 @@ module _ (log : LogValue) (s : State) (base : ℕ) (groups : List Logged) (force
 
   -- a group is forced where its number is below that of the run's first page
   pub tells_before : (b : Bool) → means_none lsn ≡ false → b ≡ nat_lt (lsn_number lsn) (number_of (log.first * 8176)) → TellsForced lsn groups forced b
-  tells_before true some less = (some_number lsn some, subst (All (λ g. lsn_number lsn < number_of g.at)) (sym others_are)
-      (later (lsn_number lsn) (8176 * (base / 8176 + length is.whole)) behind _ (subst (λ (k : ℕ). lsn_number lsn < number_of k) (sym first_is) (grind (arith, nat_tests))) (placed_rising (8176 * (base / 8176 + length is.whole)) is.fresh)))
+  tells_before true some less = (
+    some_number lsn some,
+    subst (All (λ g. lsn_number lsn < number_of g.at)) (sym others_are)
+        (later (lsn_number lsn) (8176 * (base / 8176 + length is.whole)) behind _ (subst (λ (k : ℕ). lsn_number lsn < number_of k) (sym first_is) (grind (arith, nat_tests))) (placed_rising (8176 * (base / 8176 + length is.whole)) is.fresh)),
+  )
   tells_before false some not = inr (subst (All (λ g. number_of g.at < lsn_number lsn)) (sym forced_are)
       (earlier (lsn_number lsn) base front (8176 * (base / 8176 + length is.whole)) (subst (λ (k : ℕ). number_of k ≤ lsn_number lsn) (sym first_is) (grind (arith, nat_tests)))
       (front_rising (log_files s.folder) base is.whole is.based is.at.writing.reads.stand)))

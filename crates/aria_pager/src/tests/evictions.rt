@@ -154,12 +154,7 @@ fn has_group(
 // Page 65 takes the place of page 1, which is written, and not synced. A group touches page 1 again, and is forced or not; then
 // come so many others, and a crash. Whether page 1 has that group then, or else the forced one before it; `None` if it has
 // neither, or if another page lacks its forced group.
-fn touch_again(
-    alloc: Global,
-    forces: bool,
-    count: u32,
-    fates: &str,
-) -> Result<Option<bool>, Fault>
+fn touch_again(alloc: Global, forces: bool, count: u32, fates: &str) -> Result<Option<bool>, Fault>
     requires { count ≤ 64 }
 {
     let _file = FileName::Control;
