@@ -1,6 +1,5 @@
 -- A cursor's way to a leaf.
-use Rattle.std.proofs.Common.{◌≡◌, ℕ, ◌+◌, ◌<◌, ◌≤◌, Bool, List, length, IsTrue, Option, Some, None, refl, sym, ap, subst, ◌∙◌, arith}
-use Rattle.aria_host.specs.declared.file_name.FileName.{FileName}
+use Rattle.std.proofs.Common.{◌≡◌, ℕ, Bool, List, IsTrue, Option, sym, ap, ◌∙◌, arith}
 use Rattle.aria_cache.specs.PageState.{PageState}
 use Rattle.aria_keypage.specs.declared.kind.Kind.TheVariants.{Leaf}
 use Rattle.aria_keypage.specs.Item.{Item}

@@ -1,8 +1,7 @@
 -- The entries that begin with a prefix stand side by side, from the first that isn't below it on.
-use Rattle.std.proofs.Common.{◌≡◌, ◌==◌, ℕ, Bool, true, false, cond, List, [], ◌∷◌, length, take, Option, Some, None, refl, sym, ap, subst, ◌∙◌, ◌<◌, arith, inl, inr}
+use Rattle.std.proofs.Common.{◌≡◌, ◌==◌, ℕ, Bool, true, false, cond, List, [], ◌∷◌, Option, Some, None, refl, sym, ap, subst, ◌∙◌, ◌<◌, arith, inl, inr}
 use Rattle.std.specs.List.{AllByRecursion, starts_with}
 use Rattle.std.proofs.lemmas.Bool.Decides.{nat_tests}
-use Rattle.aria_keypage.specs.declared.kind.Kind.{Kind}
 use Rattle.aria_keypage.specs.Item.{Item, is_below}
 use Rattle.aria_key.specs.Tree.{Placed, Rising, Under, IsTree, items_on, top}
 use Rattle.aria_key.specs.IndexFile.{HoldsTrees, IsTreeOf}

@@ -1,21 +1,22 @@
 -- A cursor's steps in pages as they are.
-use Rattle.std.proofs.Common.{◌≡◌, ℕ, ◌+◌, ◌<◌, ◌≤◌, Bool, true, false, List, [], length, IsTrue, Option, Some, None, refl, sym, ap, subst, ◌∙◌, arith, rules, inl, inr}
+use Rattle.std.proofs.Common.{◌≡◌, ℕ, ◌+◌, ◌<◌, Bool, List, [], length, IsTrue, Option, Some, None, sym, ap, subst, arith, rules, inl, inr}
 use Rattle.std.specs.Prelude.{IsSome}
 use Rattle.aria_host.specs.declared.file_name.FileName.{FileName}
-use Rattle.aria_cache.specs.PageState.{PageState}
+use Rattle.aria_page.specs.declared.place.Part.TheVariants.{Keys}
+use Rattle.aria_cache.specs.PageState.{PageState, Bodies, Counts, table_file}
+use Rattle.aria_cache.specs.Calls.{Loads}
 use Rattle.aria_keypage.specs.declared.leaf_reader.LeafReader.{LeafReader}
 use Rattle.aria_keypage.specs.declared.kind.Kind.TheVariants.{Leaf}
 use Rattle.aria_keypage.specs.Item.{Item, item_at}
 use Rattle.aria_keypage.specs.Content.{Content, Spells}
 use Rattle.aria_keypage.specs.LeafReading.{IsBefore, HasRead}
 use Rattle.aria_key.specs.declared.cursor.Cursor.{Cursor}
-use Rattle.aria_key.specs.Held.{HasContent}
 use Rattle.aria_key.specs.IndexFile.{HoldsTrees, IsTreeOf, root_in}
 use Rattle.aria_key.specs.Tree.{Placed, IsTree}
 use Rattle.aria_key.specs.Rest.{from}
 use Rattle.aria_key.specs.Reading.{keys_file, Reads, HasRoot}
 use Rattle.aria_key.specs.WayUp.{IsPresent}
-use Rattle.aria_key.specs.Ahead.{HasSought, IsInTree, IsInNone, IsAheadIn, IsAhead, HasAhead, HasNext, IsReady, GoesOn, IsSpent, IsSet, HasKey}
+use Rattle.aria_key.specs.Ahead.{HasSought, IsInTree, IsInNone, IsAheadIn, IsAhead, HasNext, IsReady, IsSpent, HasKey}
 use Rattle.aria_key.proofs.Holding.{held-spells}
 use Rattle.aria_key.proofs.Stepping.{sought-in, read-in, in-tree, on-leaf, last-leaf, present, left-in}
 use Rattle.aria_key.proofs.Then.{moved}
@@ -142,3 +143,9 @@ pub key_ahead : (tells : Bool) (n m slot keys key root : ℕ) (walks : ℕ → L
 key_ahead tells n m slot keys key root walks c entry old now new first second t h low is some same told =
     let r = (key_rooted (old.bodies (keys_file old slot)) (old.counts (keys_file old slot)) keys key root walks h low is).tree some in
     sought_ahead tells m slot root key c entry r.0 (walks key) now new second t same (moved (λ b k. IsTree b k key root r.0 (walks key)) tells slot n old now first t r.1) told
+
+-- what is ahead of a cursor is ahead of it after any pages were loaded
+pub ahead_later : (tells : Bool) (n : ℕ) (c : Cursor) (rest : List Item) (old now : PageState) → Loads tells n old now → IsTrue tells → IsAhead old c rest → IsAhead now c rest
+ahead_later tells n c rest old now loads t h =
+    subst (λ (f : FileName). IsAheadIn (now.bodies f) (now.counts f) c rest) (ap (λ (name : ℕ → List ℕ). table_file (name c.slot) Keys) (sym loads.slots.name))
+    (subst (λ (b : Bodies). IsAheadIn (b (keys_file old c.slot)) (now.counts (keys_file old c.slot)) c rest) (sym (loads.bodies t)) (subst (λ (k : Counts). IsAheadIn (old.bodies (keys_file old c.slot)) (k (keys_file old c.slot)) c rest) (sym loads.counts) h))

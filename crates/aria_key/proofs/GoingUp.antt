@@ -3,7 +3,6 @@ use Rattle.std.proofs.Common.{◌≡◌, ℕ, zero, suc, ◌+◌, ◌<◌, ◌�
 use Rattle.std.specs.Prelude.{⊤}
 use Rattle.std.proofs.lemmas.Bool.{cases_lt}
 use Rattle.aria_host.specs.declared.fault.Fault.{Fault}
-use Rattle.aria_host.specs.declared.file_name.FileName.{FileName}
 use Rattle.aria_cache.specs.PageState.{PageState}
 use Rattle.aria_keypage.specs.Item.{Item, item_at}
 use Rattle.aria_keypage.specs.Content.{Content}

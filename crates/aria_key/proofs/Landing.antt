@@ -1,17 +1,17 @@
 -- A search for where a leaf begins comes to that leaf's first item.
-use Rattle.std.proofs.Common.{◌≡◌, ℕ, ◌+◌, ◌<◌, ◌≤◌, Bool, true, false, List, [], ◌∷◌, ◌++◌, length, Option, Some, None, refl, sym, ap, subst, ◌∙◌, arith, append_assoc}
+use Rattle.std.proofs.Common.{◌≡◌, ℕ, ◌<◌, Bool, true, false, List, [], ◌∷◌, ◌++◌, length, Option, Some, refl, sym, ap, subst, ◌∙◌, arith, append_assoc}
 use Rattle.std.specs.List.{AllByRecursion, prefix_len}
 use Rattle.aria_keypage.specs.declared.kind.Kind.{Kind}
 use Rattle.aria_keypage.specs.declared.kind.Kind.TheVariants.{Leaf}
 use Rattle.aria_keypage.specs.Item.{Item, is_below}
 use Rattle.aria_keypage.specs.Merge.{taken_over}
 use Rattle.aria_key.specs.declared.path.Passed.{Passed}
-use Rattle.aria_key.specs.Tree.{Placed, items_of, names, name_of, Rising, Bounded, IsOf}
+use Rattle.aria_key.specs.Tree.{Placed, names, name_of, Rising, Bounded, IsOf}
 use Rattle.aria_key.specs.Climb.{onto}
 use Rattle.aria_key.specs.Place.{IsFound}
 use Rattle.aria_key.specs.Rest.{next_low}
 use Rattle.aria_key.specs.Cursor.{HasRest}
-use Rattle.aria_key.proofs.Lists.{all-right, all-at, all-mapped}
+use Rattle.aria_key.proofs.Lists.{all-at, all-mapped}
 use Rattle.aria_key.proofs.Order.{not-back}
 use Rattle.aria_key.proofs.Descending.{bounded-right}
 use Rattle.aria_key.proofs.Climbing.{names-rise}

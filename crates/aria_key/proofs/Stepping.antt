@@ -1,12 +1,8 @@
 -- A cursor's steps.
-use Rattle.std.proofs.Common.{◌≡◌, ℕ, zero, suc, ◌+◌, ◌-◌, ◌<◌, ◌≤◌, Bool, true, false, List, [], ◌∷◌, length, IsTrue, Option, Some, None, refl, sym, ap, subst, ◌∙◌, arith, rules, inl, inr}
+use Rattle.std.proofs.Common.{◌≡◌, ℕ, ◌+◌, ◌<◌, ◌≤◌, List, [], ◌∷◌, length, Option, Some, None, sym, ap, subst, ◌∙◌, arith, rules, inl, inr}
 use Rattle.std.specs.Prelude.{IsSome}
-use Rattle.std.specs.List.{AllByRecursion}
 use Rattle.std.proofs.lemmas.Option.{same_Some}
-use Rattle.aria_host.specs.declared.file_name.FileName.{FileName}
-use Rattle.aria_cache.specs.PageState.{PageState}
 use Rattle.aria_keypage.specs.declared.leaf_reader.LeafReader.{LeafReader}
-use Rattle.aria_keypage.specs.declared.kind.Kind.TheVariants.{Leaf}
 use Rattle.aria_keypage.specs.Item.{Item, item_at}
 use Rattle.aria_keypage.specs.Content.{Content, Spells}
 use Rattle.aria_keypage.specs.LeafReading.{HasRead}
@@ -16,13 +12,10 @@ use Rattle.aria_key.specs.Held.{HasContent}
 use Rattle.aria_key.specs.Tree.{Placed, Holds, IsTree}
 use Rattle.aria_key.specs.Rest.{from, next_low}
 use Rattle.aria_key.specs.Cursor.{HasRest}
-use Rattle.aria_key.specs.Reading.{keys_file, Reads}
-use Rattle.aria_key.specs.WayUp.{IsPresent}
-use Rattle.aria_key.specs.Ahead.{HasEntered, HasSought, IsInTree, IsInNone, IsAheadIn, IsAhead, HasNext, IsNext, IsReady, GoesOn, IsSpent, IsSet}
+use Rattle.aria_key.specs.Ahead.{HasSought, IsInTree, IsAheadIn}
 use Rattle.aria_key.proofs.Lists.{all-at}
 use Rattle.aria_key.proofs.Onward.{rest-sought, rest-held, rest-here, rest-from, rest-ends}
 use Rattle.aria_key.proofs.Landing.{lands}
-use Rattle.aria_key.proofs.Then.{moved}
 
 -- a page holds one content
 held-one : (bodies : ℕ → Option (List ℕ)) (page : ℕ) (c d : Content) → HasContent bodies page c → HasContent bodies page d → c ≡ d

@@ -1,5 +1,5 @@
 -- What was true before pages were read is true then, and what a call then answers has its cause from the beginning.
-use Rattle.std.proofs.Common.{◌≡◌, ℕ, ◌+◌, ◌<◌, ◌≤◌, Bool, List, IsTrue, Option, Some, None, refl, sym, ap, subst, ◌∙◌, arith}
+use Rattle.std.proofs.Common.{ℕ, ◌<◌, ◌≤◌, Bool, List, IsTrue, Option, sym, subst, ◌∙◌, arith}
 use Rattle.aria_host.specs.declared.fault.Fault.{Fault}
 use Rattle.aria_host.specs.declared.fault.Fault.TheVariants.{Memory, Disk, PageDamaged, LogDamaged}
 use Rattle.aria_host.specs.declared.file_name.FileName.{FileName}

@@ -1,5 +1,5 @@
 -- What a cursor has ahead: the entries of a tree that it hasn't read yet.
-use Rattle.std.specs.Prelude.{◌≡◌, ◌⊎◌, ℕ, ◌+◌, ◌<◌, ◌≤◌, Bool, true, false, List, [], ◌∷◌, length, Option, Some, None, IsSome}
+use Rattle.std.specs.Prelude.{◌≡◌, ◌⊎◌, ℕ, ◌+◌, ◌<◌, Bool, true, false, List, [], ◌∷◌, length, Option, Some, None, IsSome}
 use Rattle.aria_host.specs.declared.file_name.FileName.{FileName}
 use Rattle.aria_cache.specs.PageState.{PageState}
 use Rattle.aria_keypage.specs.declared.kind.Kind.TheVariants.{Leaf}
@@ -10,7 +10,7 @@ use Rattle.aria_key.specs.declared.cursor.Cursor.{Cursor}
 use Rattle.aria_key.specs.declared.entering.Entered.{Entered}
 use Rattle.aria_key.specs.declared.path.Passed.{Passed}
 use Rattle.aria_key.specs.Held.{HasContent, Takes}
-use Rattle.aria_key.specs.Tree.{Placed, IsTree}
+use Rattle.aria_key.specs.Tree.{Placed}
 use Rattle.aria_key.specs.Place.{IsFound}
 use Rattle.aria_key.specs.Rest.{next_low}
 use Rattle.aria_key.specs.Cursor.{HasRest}

@@ -1,5 +1,5 @@
-use Rattle.std.proofs.Common.{◌≡◌, ◌∙◌, List, ℕ, ap, sym, subst}
-use Rattle.aria_key.specs.Reading.{keys_file, Reads, OfTree, HasRoot}
+use Rattle.std.proofs.Common.{List, ℕ, subst}
+use Rattle.aria_key.specs.Reading.{keys_file, OfTree, HasRoot}
 use Rattle.aria_key.specs.WayUp.{IsPresent}
 use Rattle.aria_key.proofs.Going.{Sought, TellsSought, goes_on, goes_out, has_item}
 use Rattle.aria_key.proofs.Reading.{reads_one, cause_found}

@@ -1,4 +1,4 @@
-use Rattle.std.proofs.Common.{◌≡◌, ◌∙◌, ◌-◌, Some, ap, sym, arith, List, ℕ}
+use Rattle.std.proofs.Common.{◌∙◌, ◌-◌, Some, ap, sym, arith, List, ℕ}
 use Rattle.aria_page.specs.Page.{page_body}
 use Rattle.aria_keypage.specs.LeafReading.{HasRead}
 use Rattle.aria_key.specs.Reading.{keys_file, OfTree}

@@ -3,7 +3,7 @@ use Rattle.std.proofs.lemmas.Result.{err_from_is_err_and}
 use Rattle.aria_keypage.specs.declared.kind.Kind.TheVariants.{Leaf}
 use Rattle.aria_key.specs.Path.{passed}
 use Rattle.aria_key.specs.Held.{Takes}
-use Rattle.aria_key.specs.Reading.{keys_file, Reads, OfKeyPage, OfTree, HasRoot}
+use Rattle.aria_key.specs.Reading.{keys_file, Reads, OfTree, HasRoot}
 use Rattle.aria_key.specs.WayUp.{HasWay}
 use Rattle.aria_key.proofs.Arriving.{leaf_there, way_there, arrives}
 use Rattle.aria_key.proofs.Reading.{reads_one, reads_on, cause_then}

@@ -1,4 +1,4 @@
-use Rattle.std.proofs.Common.{◌≡◌, ◌∙◌, Some, ap, sym, arith, List, ℕ}
+use Rattle.std.proofs.Common.{◌∙◌, Some, ap, sym, arith}
 use Rattle.aria_key.proofs.GoingUp.{entry-is, entry-none}
 use Rattle.aria_key.proofs.way_up.entry_of.Goals as goal
 
