@@ -1,0 +1,4 @@
+pub mod Entries
+pub mod Undoing
+pub mod Tracing
+pub mod Walks

@@ -1,0 +1,4 @@
+pub mod Content
+pub mod Sound
+pub mod Trace
+pub mod Holds
