@@ -151,6 +151,18 @@ fn has_group(
     Ok(matches!(found, Some((true, lsn)) if number == Some(&lsn)))
 }
 
+// Brings all groups to the disk, or not.
+fn force_if(store: &mut PageStore, host: &mut MemHost, forces: bool) -> Result<(), Fault>
+    requires { IsUsable store.old (mem_state host.old) }
+    ensures { OnOk result (IsUsable store.new (mem_state host.new)) }
+{
+    let _file = FileName::Control;
+    if !forces {
+        return Ok(());
+    }
+    force(store, host)
+}
+
 // Page 65 takes the place of page 1, which is written, and not synced. A group touches page 1 again, and is forced or not; then
 // come so many others, and a crash. Whether page 1 has that group then, or else the forced one before it; `None` if it has
 // neither, or if another page lacks its forced group.
@@ -163,9 +175,7 @@ fn touch_again(alloc: Global, forces: bool, count: u32, fates: &str) -> Result<O
     let (mut store, numbers) = start(alloc, &mut host, &name)?;
     put(alloc, &mut store, &mut host, &name, 65, b"#")?;
     let again = put_long(alloc, &mut store, &mut host, &name, 1, 64)?;
-    if forces {
-        force(&mut store, &mut host)?;
-    }
+    force_if(&mut store, &mut host, forces)?;
     put_more(alloc, &mut store, &mut host, &name, count)?;
     crash_in_turn(alloc, &mut host, fates)?;
     let mut store = open(alloc, &mut host)?;
