@@ -1,5 +1,5 @@
 -- Causes of calls on the pages of a file that come one after another.
-use Rattle.std.proofs.Common.{◌≡◌, ℕ, ◌≤◌, ◌==◌, ◌&&◌, ◌⊎◌, inl, inr, Bool, true, false, cond, Option, None, Some, List, refl, sym, ◌∙◌, arith, subst}
+use Rattle.std.proofs.Common.{◌≡◌, ℕ, ◌+◌, ap, ◌≤◌, ◌==◌, ◌&&◌, ◌⊎◌, inl, inr, Bool, true, false, cond, Option, None, Some, List, refl, sym, ◌∙◌, arith, subst}
 use Rattle.std.specs.Prelude.{IsTrue, Result, Ok, Err, OnOk}
 use Rattle.std.specs.Option.{option_map}
 use Rattle.std.proofs.lemmas.Bool.{cases_Bool}
@@ -29,12 +29,14 @@ pub keeps_loaded : (tells : Bool) (file : FileName) (n : ℕ) (old new : PageSta
 keeps_loaded tells file n old new loads = record {
   sound = λ told m none. subst (λ (b : Bodies). b file m ≡ None) (loads.bodies told) none;
   late = loads.late;
+  others = λ f other. ap (λ (c : Counts). c f) loads.counts;
 }
 
 pub keeps_on : (tells : Bool) (file : FileName) (a b c : PageState) → KeepsSound tells file a b → KeepsSound tells file b c → KeepsSound tells file a c
 keeps_on tells file a b c first second = record {
   sound = λ told m none. first.sound told m (second.sound told m none);
   late = λ told. fewer_on a b c (first.late told) (second.late told);
+  others = λ f other. second.others f other ∙ first.others f other;
 }
 
 none_step : (b : Bool) (es : List Edit) (x : Option (List ℕ)) → cond b (option_map (all_edited es) x) x ≡ None → x ≡ None
@@ -42,10 +44,11 @@ none_step true es None is = refl
 none_step true es (Some t) is = absurd (cc)
 none_step false es x is = is
 
-pub keeps_edited : (tells logged : Bool) (file : FileName) (kind : RedoKind) (slot page : ℕ) (es : List Edit) (old new : PageState) → (IsTrue tells → Edits logged kind slot of_part.Rows page es old new) → KeepsSound tells file old new
-keeps_edited tells logged file kind slot page es old new edits = record {
+pub keeps_edited : (tells logged : Bool) (file : FileName) (kind : RedoKind) (slot page : ℕ) (es : List Edit) (old new : PageState) → (IsTrue tells → Edits logged kind slot of_part.Rows page es old new) → new.counts ≡ with_count file (page + 1) old.counts → KeepsSound tells file old new
+keeps_edited tells logged file kind slot page es old new edits longer = record {
   sound = λ told m none. none_step (same_file (file_of old slot of_part.Rows) file && (page == m)) es (old.bodies file m) (subst (λ (b : Bodies). b file m ≡ None) (edits told).bodies none);
   late = λ told. (edits told).late;
+  others = λ f other. ap (λ (c : Counts). c f) longer ∙ rw other refl;
 }
 
 -- ---- counts

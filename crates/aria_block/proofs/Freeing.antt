@@ -1,6 +1,7 @@
 -- Pages on which nothing stands.
-use Rattle.std.proofs.Common.{◌≡◌, ◌≢◌, ℕ, ◌+◌, ◌%◌, ◌<◌, ◌≤◌, Option, Some, None, List, refl, sym, ap, ◌∙◌, arith, inl, inr, eq-eqb}
+use Rattle.std.proofs.Common.{◌≡◌, ◌≢◌, ℕ, ◌+◌, ◌%◌, ◌<◌, ◌≤◌, Option, Some, None, List, refl, sym, ap, ◌∙◌, arith, subst, inl, inr, eq-eqb}
 use Rattle.std.specs.Prelude.{slice_index, nat_le, Result, Ok, Err, IfOk}
+use Rattle.std.specs.Option.{option_map}
 use Rattle.std.proofs.lemmas.Bool.{cases_Bool, cases_eq, ne_eqb}
 use Rattle.aria_page.specs.Page.{page_body, zero_page}
 use Rattle.aria_host.specs.declared.fault.Fault.{Fault}
@@ -10,7 +11,7 @@ use Rattle.aria_bitmap.specs.Promise.{IsFreeRun}
 use Rattle.aria_block.specs.declared.part_kind.PartKind.{PartKind}
 use Rattle.aria_block.specs.declared.part_kind.PartKind.TheVariants as part
 use Rattle.aria_block.specs.Pieces.{Piece, Pieces}
-use Rattle.aria_block.specs.PartPage.{part_byte}
+use Rattle.aria_block.specs.PartPage.{part_in, part_byte, part_piece, LastIsUsed}
 use Rattle.aria_block.specs.DataFile.{HoldsPage, free, parts, blob, map_of, nth_of, HoldsData}
 use Rattle.aria_block.specs.Runs.{FindsRun, IsUnderOne, AreFree}
 use Rattle.aria_block.proofs.Placed.{kind_of}
@@ -67,6 +68,19 @@ free_none body f (free first none) is slot = none slot
 free_none body f (parts kind c items page holds) is slot = absurd (some_kind kind (sym (kind_of kind c items body page) ∙ is))
 free_none body f (blob bytes first text here others) is slot = absurd (not_free 5 (omega arith) (sym first ∙ is))
 
+-- and a page on which nothing stands is one
+none_free : (body : List ℕ) (f : ℕ → Option Piece) → HoldsPage body f → ((slot : ℕ) → f slot ≡ None) → slice_index body 0 ≡ 0
+none_free body f (free first nothing) none = first
+none_free body f (parts kind c items page holds) none = absurd (used page.last)
+  where
+    no_part : (o : Option (List ℕ)) → option_map (part_piece kind) o ≡ None → o ≡ None
+    no_part None is = refl
+    no_part (Some x) is = absurd (cc)
+
+    used : LastIsUsed c items → ⊥
+    used (m, at, some) = some (no_part (part_in items m) (sym (holds m) ∙ none m))
+none_free body f (blob bytes first text here others) none = let gone = none 0 in absurd (cc)
+
 zero_first : slice_index (page_body zero_page) 0 ≡ 0
 unfolding page_body zero_page
 zero_first = refl
@@ -88,6 +102,25 @@ module _ (count : ℕ) (bodies : ℕ → Option (List ℕ)) (pieces : Pieces) (h
         let same : map_of m ≡ map_of page = omega (arith, under.plain, under.within, from, to) in
         let zero : pattern (holds.body (map_of page)) (nth_of m) ≡ 0 = run.free (nth_of m) (omega (arith, under.plain, under.within, from, to)) (omega (arith, under.plain, under.within, from, to)) in
         none_there m slot (code_free (holds.body m) (sym (holds.file.code m plain) ∙ ap (λ (k : ℕ). pattern (holds.body k) (nth_of m)) same ∙ zero));
+  }
+
+  -- a page on which nothing stands has a free page's code
+  code_none : (m : ℕ) → m % 21809 ≢ 0 → ((slot : ℕ) → pieces m slot ≡ None) → code (holds.body m) ≡ 0
+  unfolding code
+  code_none m plain none = rw (eq-eqb (slice_index (holds.body m) 0) 0 (none_free (holds.body m) (pieces m) (holds.file.page m plain) none)) refl
+
+  -- pages on which nothing stands are promised free
+  pub free_run : (n page : ℕ) → IsUnderOne n page → AreFree n page pieces → IsFreeRun (holds.body (map_of page)) n (nth_of page)
+  free_run n page under are = record {
+    within = omega (arith, under.plain, under.within);
+    free = λ nth from to.
+        let m : ℕ = map_of page + 1 + nth in
+        let plain : m % 21809 ≢ 0 = omega (arith, under.plain, under.within, from, to) in
+        let same : map_of m ≡ map_of page = omega (arith, under.plain, under.within, from, to) in
+        let at : nth_of m ≡ nth = omega (arith, under.plain, under.within, from, to) in
+        subst (λ (k : ℕ). pattern (holds.body (map_of page)) k ≡ 0) at
+        (subst (λ (k : ℕ). pattern (holds.body k) (nth_of m) ≡ 0) same
+        (holds.file.code m plain ∙ code_none m plain (λ slot. are.free m slot (omega (arith, under.plain, from)) (omega (arith, under.plain, under.within, from, to)))));
   }
 
   -- nor behind the file's end

@@ -30,4 +30,9 @@ pub mod ReadPages
 pub mod OnPages
 pub mod RowRead
 pub mod Deleted
+pub mod PartsBack
+pub mod Rooms
+pub mod RowBack
 mod Worked
+pub mod RowTaken
+pub mod RowGone

@@ -1,9 +1,9 @@
 -- Pages that are looked at, one after another.
-use Rattle.std.proofs.Common.{◌≡◌, ℕ, ◌+◌, ◌%◌, ◌≤◌, Bool, Option, Some, None, List, refl, ◌∙◌, arith, subst, inl, inr}
+use Rattle.std.proofs.Common.{◌≡◌, ap, ℕ, ◌+◌, ◌%◌, ◌≤◌, Bool, Option, Some, None, List, refl, ◌∙◌, arith, subst, inl, inr}
 use Rattle.std.specs.Prelude.{IfSome}
 use Rattle.std.proofs.lemmas.Bool.{cases_eq}
 use Rattle.aria_host.specs.declared.file_name.FileName.{FileName}
-use Rattle.aria_cache.specs.PageState.{PageState, Bodies}
+use Rattle.aria_cache.specs.PageState.{PageState, Bodies, Counts}
 use Rattle.aria_cache.specs.Calls.{Loads}
 use Rattle.aria_cache.proofs.Growing.{fewer_on}
 use Rattle.aria_block.specs.Causes.{KeepsSound}
@@ -35,6 +35,7 @@ pub keeps_looked : (tells : Bool) (file : FileName) (old new : PageState) → Lo
 keeps_looked tells file old new looks = record {
   sound = λ told m none. subst (λ (b : Bodies). b file m ≡ None) (looks.bodies told) none;
   late = looks.late;
+  others = λ f other. ap (λ (c : Counts). c f) looks.counts;
 }
 
 -- no page is promised before the next bitmap page

@@ -1,10 +1,11 @@
 -- The causes of the faults of calls on the pages of one file.
-use Rattle.std.specs.Prelude.{◌≡◌, ⊤, ℕ, Bool, IsTrue, None}
+use Rattle.std.specs.Prelude.{◌≡◌, ⊤, ℕ, Bool, false, IsTrue, None}
 use Rattle.aria_page.specs.declared.place.Part.TheVariants.{Rows}
 use Rattle.aria_host.specs.declared.fault.Fault.{Fault}
 use Rattle.aria_host.specs.declared.fault.Fault.TheVariants.{Memory, Disk, PageDamaged, LogDamaged}
 use Rattle.aria_host.specs.declared.file_name.FileName.{FileName}
 use Rattle.aria_host.specs.Count.{Rose}
+use Rattle.aria_host.specs.Folder.{same_file}
 use Rattle.aria_cache.specs.PageState.{PageState, file_of}
 use Rattle.aria_cache.specs.Calls.{FewerLate}
 use Rattle.aria_block.specs.Pieces.{Pieces}
@@ -22,10 +23,11 @@ OfFile tells logged file old new (PageDamaged f n) = (f ≡ file) × (IsTrue tel
 OfFile tells logged file old new (LogDamaged f n) = IsTrue logged × (IsTrue tells → (m : ℕ) × IsTrue (old.late file m))
 OfFile tells logged file old new _ = ⊥
 
--- No page of the file came to be damaged, or ahead of the log.
+-- No page of the file came to be damaged, or ahead of the log, and no other file has more pages or fewer.
 pub record KeepsSound (tells : Bool) (file : FileName) (old new : PageState) : Type 0 where
   pub sound : IsTrue tells → (n : ℕ) → new.bodies file n ≡ None → old.bodies file n ≡ None
   pub late : IsTrue tells → FewerLate old new
+  pub others : (f : FileName) → same_file file f ≡ false → new.counts f ≡ old.counts f
 
 -- The same, or the pages don't hold a data file.
 abbrev pub OfRows : Bool → Bool → FileName → PageState → PageState → Fault → Type 0

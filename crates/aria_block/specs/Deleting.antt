@@ -1,8 +1,9 @@
 -- Rows that are taken.
-use Rattle.std.specs.Prelude.{◌≡◌, ℕ, ◌+◌, ◌^◌, ◌<◌, ◌&&◌, nat_le, nat_lt, Bool, if◌then◌else◌, List, Option, Some, None}
+use Rattle.std.specs.Prelude.{◌≡◌, ⊤, ℕ, ◌+◌, ◌^◌, ◌<◌, ◌&&◌, nat_le, nat_lt, Bool, if◌then◌else◌, List, Option, Some, None}
 use Rattle.aria_page.specs.declared.place.Place.{Place}
 use Rattle.aria_page.specs.declared.place.Places.{Places}
 use Rattle.aria_block.specs.declared.part_kind.PartKind.{PartKind}
+use Rattle.aria_block.specs.declared.part_kind.PartKind.TheVariants as part
 use Rattle.aria_block.specs.Pieces.{Piece, Pieces, Blob, is_at}
 use Rattle.aria_block.specs.PartPage.{part_piece}
 use Rattle.aria_block.specs.Rows.{Kept, Rows, IsTiled}
@@ -37,3 +38,8 @@ pub record HasRowAt (places : Places) (pieces : Pieces) : Type 0 where
   pub row : List ℕ
   pub there : rows places.head.page places.head.slot ≡ Some (record { places = places; row = row })
   pub fits : FitsHead (record { places = places; row = row })
+
+-- its tail stands there, if it has one
+abbrev pub HasTailAt : Option Place → Pieces → Type 0
+HasTailAt None pieces = ⊤
+HasTailAt (Some place) pieces = HasPart part.Tail place pieces

@@ -14,3 +14,5 @@ pub mod HoldsRows
 pub mod Storing
 pub mod Reading
 pub mod Deleting
+pub mod Lying
+pub mod PuttingBack

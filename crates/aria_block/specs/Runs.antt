@@ -1,5 +1,5 @@
 -- Free pages one after another under one bitmap page.
-use Rattle.std.specs.Prelude.{◌≡◌, ◌≢◌, ℕ, ◌+◌, ◌%◌, ◌<◌, ◌≤◌, ◌⊎◌, List, Option, Some, None}
+use Rattle.std.specs.Prelude.{◌≡◌, ◌≢◌, ℕ, ◌+◌, ◌%◌, ◌<◌, ◌≤◌, ◌⊎◌, Bool, true, false, List, Option, Some, None}
 use Rattle.aria_host.specs.declared.file_name.FileName.{FileName}
 use Rattle.aria_bitmap.specs.Promise.{IsFreeRun}
 use Rattle.aria_cache.specs.PageState.{PageState}
@@ -22,6 +22,11 @@ NoRunBefore n count bodies to = (page : ℕ) → page % MAP_EVERY ≢ 0 → map_
 abbrev pub FindsRun : ℕ → ℕ → (ℕ → Option (List ℕ)) → Option ℕ → Type 0
 FindsRun n count bodies (Some page) = (map : List ℕ) → bodies (map_of page) ≡ Some map → IsFreeRun map n (nth_of page)
 FindsRun n count bodies None = NoRunBefore n count bodies count
+
+-- whether a bitmap page promises so many pages free, from this number on
+abbrev pub TellsFree : ℕ → ℕ → List ℕ → Bool → Type 0
+TellsFree n nth map true = IsFreeRun map n nth
+TellsFree n nth map false = IsFreeRun map n nth → ⊥
 
 -- so many pages from this one on lie under one bitmap page
 pub record IsUnderOne (n page : ℕ) : Type 0 where

@@ -83,6 +83,7 @@ pub(crate) fn insert_blobs<P: Pages>(
         → IfOk result (λ first. BlobsPut row.now first ((P.state pages.new).counts (rows_file (P.state pages.old) slot)) ((P.state pages.new).bodies (rows_file (P.state pages.old) slot)) pieces) }
     ensures needed { IsTrue P.tells → OnOk result (GrowsForRun (blob_count (length row.now)) (rows_file (P.state pages.old) slot) (P.state pages.old) (P.state pages.new)) }
     ensures count { OnOk result ((P.state pages.new).counts (rows_file (P.state pages.old) slot) ≤ (P.state pages.old).counts (rows_file (P.state pages.old) slot) + 16) }
+    ensures fits { IfOk result (λ first. first < 2 ^ 31) }
     ensures inside { IsTrue P.tells → OnOk result (StaysIn P.logged (rows_file (P.state pages.old) slot) (P.state pages.old) (P.state pages.new)) }
     ensures grows { OnOk result (Grows (P.state pages.old) (P.state pages.new)) }
     ensures keeps { OnOk result (KeepsSound P.tells (rows_file (P.state pages.old) slot) (P.state pages.old) (P.state pages.new)) }

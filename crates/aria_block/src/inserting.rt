@@ -1,4 +1,5 @@
 ghost use Rattle.std.specs.Prelude.{◌≡◌, ◌≢◌, ◌+◌, ◌-◌, ◌%◌, ◌^◌, ◌<◌, ◌≤◌, Some, None, true, IsTrue, IfOk, OnOk, length};
+ghost use Rattle.aria_record.specs.Groups.{PlaceFits};
 ghost use Rattle.aria_cache.specs.Calls.{fault_of, Answers, Spends, StaysIn, SameSlots, SameLog, Grows};
 ghost use Rattle.aria_cache.specs.Causes.{HasPagesCause};
 ghost use Rattle.aria_block.specs.declared.layout.TheConstants.{MAP_EVERY, PART_MAX};
@@ -90,6 +91,7 @@ pub(crate) fn insert_part<P: Pages>(
     ensures needed { IsTrue P.tells → OnOk result (GrowsForPart kind (length bytes.now) (rows_file (P.state pages.old) slot) (P.state pages.old) (P.state pages.new)) }
     ensures last { IsTrue P.tells → IfOk result (λ place. GrowsLast kind (length bytes.now) ((P.state pages.old).counts (rows_file (P.state pages.old) slot)) ((P.state pages.old).bodies (rows_file (P.state pages.old) slot)) place.page) }
     ensures count { OnOk result ((P.state pages.new).counts (rows_file (P.state pages.old) slot) ≤ (P.state pages.old).counts (rows_file (P.state pages.old) slot) + 2) }
+    ensures fits { IfOk result (λ place. PlaceFits place × (0 < place.page)) }
     ensures inside { IsTrue P.tells → OnOk result (StaysIn P.logged (rows_file (P.state pages.old) slot) (P.state pages.old) (P.state pages.new)) }
     ensures grows { OnOk result (Grows (P.state pages.old) (P.state pages.new)) }
     ensures keeps { OnOk result (KeepsSound P.tells (rows_file (P.state pages.old) slot) (P.state pages.old) (P.state pages.new)) }

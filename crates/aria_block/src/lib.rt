@@ -23,6 +23,7 @@ mod lengthening;
 mod part;
 mod part_kind;
 mod placing;
+mod putting_back;
 mod reading;
 mod row_bytes;
 mod row_reading;
@@ -32,8 +33,10 @@ mod spot;
 mod storing;
 mod take;
 
+pub use deleting::delete_row;
 pub use layout::MAP_EVERY;
 pub use part_kind::PartKind;
+pub use putting_back::put_back;
 pub use row_reading::read_row;
 pub use storing::insert_row;
 

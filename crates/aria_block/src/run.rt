@@ -1,15 +1,16 @@
 ghost use Rattle.std.specs.Prelude.{◌≡◌, ◌+◌, ◌-◌, ◌%◌, ◌^◌, ◌<◌, ◌≤◌, ℕ, List, Some, IsTrue, IfOk, IfSome};
 ghost use Rattle.aria_page.specs.Page.{page_body};
+ghost use Rattle.aria_bitmap.specs.declared.group.TheConstants.{PATTERNS};
 ghost use Rattle.aria_cache.specs.Calls.{fault_of, Answers};
 ghost use Rattle.aria_cache.specs.Causes.{HasPagesCause};
 ghost use Rattle.aria_block.specs.declared.layout.TheConstants.{MAP_EVERY};
 ghost use Rattle.aria_block.specs.Causes.{rows_file, OfFile};
-ghost use Rattle.aria_block.specs.DataFile.{map_of};
+ghost use Rattle.aria_block.specs.DataFile.{map_of, nth_of};
 ghost use Rattle.aria_block.specs.Finding.{Looks};
-ghost use Rattle.aria_block.specs.Runs.{FindsRunUnder, FindsRun, IsUnderOne};
+ghost use Rattle.aria_block.specs.Runs.{FindsRunUnder, FindsRun, IsUnderOne, TellsFree};
 
 use crate::layout::MAP_EVERY;
-use aria_bitmap::find_empty_run;
+use aria_bitmap::{find_empty_run, get};
 use aria_cache::{PageId, Pages};
 use aria_host::{Fault, FileName};
 use aria_page::{Page, Part};
@@ -98,4 +99,51 @@ pub(crate) fn find_run<P: Pages>(
         found = run_at(alloc, pages, slot, at, n)?;
     }
     Ok(found)
+}
+
+// Whether the bitmap page promises so many pages free, from one on.
+fn is_free_run(map: &Page, nth: u32, n: u32) -> bool
+    requires { nth + n ≤ PATTERNS }
+    ensures { TellsFree n nth (page_body map.now) result }
+{
+    let mut at = nth;
+    while at < nth + n {
+        if get(map, at) != 0 {
+            return false;
+        }
+        at += 1;
+    }
+    true
+}
+
+/// Whether so many pages of the file under one bitmap page, from one on, are promised free.
+pub(crate) fn run_is_free<P: Pages>(
+    alloc: Global,
+    pages: &mut P,
+    slot: u32,
+    first: u32,
+    n: u32,
+) -> Result<bool, Fault>
+    requires stands { P.stands pages.old }
+    requires open { IsTrue ((P.state pages.old).is_open slot) }
+    requires under { IsUnderOne n first }
+    requires below { first < (P.state pages.old).counts (rows_file (P.state pages.old) slot) }
+    ensures stands { P.stands pages.new }
+    ensures moves { P.stays pages.old pages.new }
+    ensures looks { Looks P.tells (P.state pages.old) (P.state pages.new) }
+    ensures found { IsTrue P.tells → IfOk result (λ r. (map : List ℕ) → (P.state pages.old).bodies (rows_file (P.state pages.old) slot) (map_of first) ≡ Some map → TellsFree n (nth_of first) map r) }
+    ensures answers { Answers (P.state pages.old) (P.state pages.new) (fault_of result) }
+    ensures cause { HasPagesCause (OfFile P.tells P.logged (rows_file (P.state pages.old) slot) (P.state pages.old) (P.state pages.new)) (P.state pages.old) (P.state pages.new) (fault_of result) }
+{
+    let _file = FileName::Control;
+    let nth = first % MAP_EVERY;
+    pages.load(
+        alloc,
+        PageId {
+            slot,
+            part: Part::Rows,
+            page: first - nth,
+        },
+    )?;
+    Ok(is_free_run(pages.loaded(), nth - 1, n))
 }

@@ -1,4 +1,5 @@
 ghost use Rattle.std.specs.Prelude.{◌≡◌, ◌+◌, ◌-◌, ◌^◌, ◌<◌, ◌≤◌, ℕ, Bool, List, Some, None, true, IsTrue, IfOk, OnOk, length};
+ghost use Rattle.aria_record.specs.Groups.{PlaceFits, TailFits, PlacesFit};
 ghost use Rattle.aria_cache.specs.Calls.{fault_of, Answers, Spends, StaysIn, SameSlots, SameLog, Grows};
 ghost use Rattle.aria_cache.specs.Causes.{HasPagesCause};
 ghost use Rattle.aria_cache.specs.RowFaults.{row_fault_of, IsFull};
@@ -49,6 +50,7 @@ fn insert_tail<P: Pages>(
     ensures needed { IsTrue P.tells → OnOk result (GrowsForPart part.Tail (tail_size (length row.now)) (rows_file (P.state pages.old) slot) (P.state pages.old) (P.state pages.new)) }
     ensures none { tail_size (length row.now) ≡ 0 → OnOk result ((P.state pages.new).counts ≡ (P.state pages.old).counts) }
     ensures count { OnOk result ((P.state pages.new).counts (rows_file (P.state pages.old) slot) ≤ (P.state pages.old).counts (rows_file (P.state pages.old) slot) + 2) }
+    ensures fits { IfOk result (λ tail. TailFits tail) }
     ensures inside { IsTrue P.tells → OnOk result (StaysIn P.logged (rows_file (P.state pages.old) slot) (P.state pages.old) (P.state pages.new)) }
     ensures grows { OnOk result (Grows (P.state pages.old) (P.state pages.new)) }
     ensures keeps { OnOk result (KeepsSound P.tells (rows_file (P.state pages.old) slot) (P.state pages.old) (P.state pages.new)) }
@@ -93,6 +95,7 @@ fn insert_head<P: Pages>(
         → IfOk result (λ places. HeadPut row.now places ((P.state pages.new).counts (rows_file (P.state pages.old) slot)) ((P.state pages.new).bodies (rows_file (P.state pages.old) slot)) pieces) }
     ensures needed { IsTrue P.tells → OnOk result (GrowsForPart part.Head (HEAD_FIELDS + head_size (length row.now)) (rows_file (P.state pages.old) slot) (P.state pages.old) (P.state pages.new)) }
     ensures count { OnOk result ((P.state pages.new).counts (rows_file (P.state pages.old) slot) ≤ (P.state pages.old).counts (rows_file (P.state pages.old) slot) + 2) }
+    ensures fits { IfOk result (λ places. PlaceFits places.head) }
     ensures inside { IsTrue P.tells → OnOk result (StaysIn P.logged (rows_file (P.state pages.old) slot) (P.state pages.old) (P.state pages.new)) }
     ensures grows { OnOk result (Grows (P.state pages.old) (P.state pages.new)) }
     ensures keeps { OnOk result (KeepsSound P.tells (rows_file (P.state pages.old) slot) (P.state pages.old) (P.state pages.new)) }
@@ -134,6 +137,7 @@ fn insert_long<P: Pages>(
     ensures put { IsTrue P.tells → (pieces : Pieces) → HoldsData ((P.state pages.old).counts (rows_file (P.state pages.old) slot)) ((P.state pages.old).bodies (rows_file (P.state pages.old) slot)) pieces
         → IfOk result (λ places. RowPut row.now places pieces (rows_file (P.state pages.old) slot) (P.state pages.old) (P.state pages.new)) }
     ensures count { OnOk result ((P.state pages.new).counts (rows_file (P.state pages.old) slot) ≤ (P.state pages.old).counts (rows_file (P.state pages.old) slot) + 20) }
+    ensures fits { IfOk result (λ places. PlacesFit places) }
     ensures inside { IsTrue P.tells → OnOk result (StaysIn P.logged (rows_file (P.state pages.old) slot) (P.state pages.old) (P.state pages.new)) }
     ensures grows { OnOk result (Grows (P.state pages.old) (P.state pages.new)) }
     ensures keeps { OnOk result (KeepsSound P.tells (rows_file (P.state pages.old) slot) (P.state pages.old) (P.state pages.new)) }
@@ -170,6 +174,7 @@ fn insert_pieces<P: Pages>(
     ensures put { IsTrue P.tells → (pieces : Pieces) → HoldsData ((P.state pages.old).counts (rows_file (P.state pages.old) slot)) ((P.state pages.old).bodies (rows_file (P.state pages.old) slot)) pieces
         → IfOk result (λ places. RowPut row.now places pieces (rows_file (P.state pages.old) slot) (P.state pages.old) (P.state pages.new)) }
     ensures count { OnOk result ((P.state pages.new).counts (rows_file (P.state pages.old) slot) ≤ (P.state pages.old).counts (rows_file (P.state pages.old) slot) + 20) }
+    ensures fits { IfOk result (λ places. PlacesFit places) }
     ensures inside { IsTrue P.tells → OnOk result (StaysIn P.logged (rows_file (P.state pages.old) slot) (P.state pages.old) (P.state pages.new)) }
     ensures grows { OnOk result (Grows (P.state pages.old) (P.state pages.new)) }
     ensures keeps { OnOk result (KeepsSound P.tells (rows_file (P.state pages.old) slot) (P.state pages.old) (P.state pages.new)) }
@@ -210,6 +215,7 @@ pub fn insert_row<P: Pages>(
     ensures full { TellsFull ((P.state pages.old).counts (rows_file (P.state pages.old) slot)) result }
     ensures still { IsFull ((P.state pages.old).counts (rows_file (P.state pages.old) slot)) → Looks P.tells (P.state pages.old) (P.state pages.new) }
     ensures count { OnOk result ((P.state pages.new).counts (rows_file (P.state pages.old) slot) ≤ (P.state pages.old).counts (rows_file (P.state pages.old) slot) + 20) }
+    ensures fits { IfOk result (λ places. PlacesFit places) }
     ensures inside { IsTrue P.tells → OnOk result (StaysIn P.logged (rows_file (P.state pages.old) slot) (P.state pages.old) (P.state pages.new)) }
     ensures grows { OnOk result (Grows (P.state pages.old) (P.state pages.new)) }
     ensures keeps { OnOk result (KeepsSound P.tells (rows_file (P.state pages.old) slot) (P.state pages.old) (P.state pages.new)) }

@@ -1,12 +1,15 @@
-ghost use Rattle.std.specs.Prelude.{◌≡◌, ◌≤◌, false, length};
+ghost use Rattle.std.specs.Prelude.{◌≡◌, ◌≤◌, true, false, length};
 ghost use Rattle.aria_block.specs.declared.layout.TheConstants.{ROW_MAX};
 ghost use Rattle.aria_cache.specs.MemPages.{MemStands};
 
+use crate::deleting::delete_row;
+use crate::putting_back::put_back;
+use crate::row_reading::read_row;
 use crate::storing::insert_row;
 use aria_bitmap::entry;
-use aria_cache::{MemPages, PageId, Pages, RowFault};
+use aria_cache::{MemPages, OpenGroup, PageId, Pages, RowFault};
 use aria_host::{Fault, FileName};
-use aria_page::{Part, Place, Places};
+use aria_page::{Bytes, Part, Place, Places};
 use std::alloc::Global;
 use std::test::*;
 
@@ -107,5 +110,53 @@ fn rows_are_divided(rt: HostRuntime) -> Result<(), Fail> {
                 blobs: 1
             })
     );
+    Ok(())
+}
+
+// Puts a row, takes it, and puts it back where it stood.
+fn put_again(
+    alloc: Global,
+    pages: &mut MemPages,
+    group: &mut OpenGroup,
+    row: &[u8],
+) -> Result<Places, RowFault>
+    requires stands { MemStands pages.old }
+    requires group { pages.old.in_group ≡ true }
+    requires few { length row.now ≤ ROW_MAX }
+    ensures stands { MemStands pages.new }
+{
+    let _file = FileName::Control;
+    let places = insert_row(alloc, pages, group, 0, row)?;
+    delete_row(alloc, pages, group, 0, &places)?;
+    put_back(alloc, pages, group, 0, row, &places)?;
+    Ok(places)
+}
+
+// Whether a row of so many bytes, put again, is read where it stood.
+fn comes_back(alloc: Global, len: usize) -> bool
+    requires { len ≤ ROW_MAX }
+{
+    let Ok(row) = vec![in alloc; 7u8; len] else {
+        return false;
+    };
+    let mut pages = MemPages::new(alloc);
+    let mut group = pages.group();
+    let answer = put_again(alloc, &mut pages, &mut group, row.as_slice());
+    group.spend();
+    let Ok(places) = answer else {
+        return false;
+    };
+    let mut out = Bytes::new(alloc);
+    let Ok(found) = read_row(alloc, &mut pages, 0, places.head, &mut out) else {
+        return false;
+    };
+    found == places && out.as_slice() == row.as_slice()
+}
+
+#[test]
+fn rows_are_put_back(rt: HostRuntime) -> Result<(), Fail> {
+    let alloc = rt.alloc();
+    assert!(rt; comes_back(alloc, 2_000));
+    assert!(rt; comes_back(alloc, 40_000));
     Ok(())
 }
