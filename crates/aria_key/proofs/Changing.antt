@@ -103,6 +103,49 @@ take-item kind key xs a b p q f g x h ep eq elow epage its =
         rising-both m n (rising-left m (x ∷ n) r) (rising-right m (x ∷ n) r).1
         (all-weaker (λ y. AllByRecursion (λ z. is_below y.entry z.entry ≡ true) (x ∷ n)) (λ y. AllByRecursion (λ z. is_below y.entry z.entry ≡ true) n) m (λ y u. u.1) (rising-across m (x ∷ n) r))
 
+-- an item is put in the place of another
+pub swap-item : (kind : Kind) (key : ℕ) (xs : List Item) (a b : List Placed) (p q : Placed) (f g : List Item) (z x : Item) → IsLevel kind key xs (a ++ p ∷ b)
+    → items_of p ≡ f ++ z ∷ g → items_of q ≡ f ++ x ∷ g → q.low ≡ p.low → q.page ≡ p.page → IsOf kind key q
+    → IsBetween f x.entry g → is_below x.entry p.low ≡ false → AllByRecursion (λ r. is_below x.entry r.low ≡ true) b
+    → Has kind key xs (a ++ q ∷ b) ((items_on a ++ f) ++ x ∷ (g ++ items_on b))
+swap-item kind key xs a b p q f g z x h ep eq elow epage its is low high =
+    let old : items_on (a ++ p ∷ b) ≡ (items_on a ++ f) ++ z ∷ (g ++ items_on b) = items-around a b p f (z ∷ g) ep in
+    let new : items_on (a ++ q ∷ b) ≡ (items_on a ++ f) ++ x ∷ (g ++ items_on b) = items-around a b q f (x ∷ g) eq in
+    let left : AllByRecursion (λ y. is_below y.entry x.entry ≡ true) (items_on a) =
+    all-weaker (λ y. is_below y.entry p.low ≡ true) (λ y. is_below y.entry x.entry ≡ true) (items_on a) (λ y e. below-up y.entry p.low x.entry e low) (flat-under a p.low (under-first a b p h.bounded)) in
+    let own = bounded-right a (p ∷ b) h.bounded in
+    let right : AllByRecursion (λ y. is_below x.entry y.entry ≡ true) (items_on b) = items-high x.entry b own.2 high in
+    let between : IsBetween (items_on a ++ f) x.entry (g ++ items_on b) = record {
+      below = all-append (λ y. is_below y.entry x.entry ≡ true) (items_on a) f left is.below;
+      above = all-append (λ y. is_below x.entry y.entry ≡ true) g (items_on b) is.above right;
+    } in
+    let other = λ (P : Item → Type 0) (u : AllByRecursion P (items_of p)) (v : P x). subst (AllByRecursion P) (sym eq) (instead P (subst (AllByRecursion P) ep u) v) in
+    record {
+      level = record {
+        named = names-append a (q ∷ b) ∙ (λ i. names a ++ record { entry = elow i; to = epage i } ∷ names b) ∙ sym (names-append a (p ∷ b)) ∙ h.named;
+        kinds = all-instead (IsOf kind key) a b (q ∷ []) p h.kinds (its, tt);
+        rising = subst Rising (sym new) (rising-more (items_on a ++ f) (g ++ items_on b) x (rising-less (items_on a ++ f) (g ++ items_on b) (subst Rising old h.rising)) between);
+        bounded = bounded-instead a b p q h.bounded elow (
+          subst (λ l. AllByRecursion (λ y. is_below y.entry l ≡ false) (items_of q)) (sym elow) (other (λ y. is_below y.entry p.low ≡ false) own.0 low),
+          two b (λ (r : Placed) (u : IsUnder r.low p) (v : is_below x.entry r.low ≡ true). other (λ y. is_below y.entry r.low ≡ true) u v) own.1 high,
+          own.2,
+        );
+      };
+      items_are = new;
+    }
+  where
+    instead : (P : Item → Type 0) → AllByRecursion P (f ++ z ∷ g) → P x → AllByRecursion P (f ++ x ∷ g)
+    instead P u v = all-append P f (x ∷ g) (all-left P f (z ∷ g) u) (v, (all-right P f (z ∷ g) u).1)
+
+    rising-less : (m n : List Item) → Rising (m ++ z ∷ n) → Rising (m ++ n)
+    rising-less m n r =
+        rising-both m n (rising-left m (z ∷ n) r) (rising-right m (z ∷ n) r).1
+        (all-weaker (λ y. AllByRecursion (λ w. is_below y.entry w.entry ≡ true) (z ∷ n)) (λ y. AllByRecursion (λ w. is_below y.entry w.entry ≡ true) n) m (λ y u. u.1) (rising-across m (z ∷ n) r))
+
+    two : (b : List Placed) → ((r : Placed) → IsUnder r.low p → is_below x.entry r.low ≡ true → IsUnder r.low q) → AllByRecursion (λ r. IsUnder r.low p) b → AllByRecursion (λ r. is_below x.entry r.low ≡ true) b → AllByRecursion (λ r. IsUnder r.low q) b
+    two [] k u v = tt
+    two (r ∷ b) k u v = (k r u.0 v.0, two b k u.1 v.1)
+
 across-both : (a n b : List Placed) → Across a n → Across a b → Across a (n ++ b)
 across-both [] n b p q = tt
 across-both (r ∷ a) n b p q = (all-append (λ s. IsUnder s.low r) n b p.0 q.0, across-both a n b p.1 q.1)

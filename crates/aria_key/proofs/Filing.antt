@@ -67,13 +67,13 @@ says-header key root free header size low r f =
 
 -- ---- trees whose pages weren't written
 
-held-still : (old new : ℕ → Option (List ℕ)) (count more : ℕ) (l : List Placed) → count ≤ more → ((n : ℕ) → 0 < times_on n l → new n ≡ old n) → AllByRecursion (Holds old count) l → AllByRecursion (Holds new more) l
+pub held-still : (old new : ℕ → Option (List ℕ)) (count more : ℕ) (l : List Placed) → count ≤ more → ((n : ℕ) → 0 < times_on n l → new n ≡ old n) → AllByRecursion (Holds old count) l → AllByRecursion (Holds new more) l
 held-still old new count more [] grows same h = tt
 held-still old new count more (p ∷ l) grows same h =
     let self : times_on p.page (p ∷ l) ≡ 1 + times_on p.page l = ap (λ (t : Bool). cond t 1 0 + times_on p.page l) (eq-eqb p.page p.page refl) in
     (record { low = omega (arith, h.0.low, grows); body = h.0.body; there = same p.page (omega (arith, self)) ∙ h.0.there; size = h.0.size; spells = h.0.spells }, held-still old new count more l grows (λ n k. same n (omega (arith, k))) h.1)
 
-levels-still : (old new : ℕ → Option (List ℕ)) (count more : ℕ) (ls : List (List Placed)) → count ≤ more → ((n : ℕ) → 0 < times_in n ls → new n ≡ old n) → HoldAll old count ls → HoldAll new more ls
+pub levels-still : (old new : ℕ → Option (List ℕ)) (count more : ℕ) (ls : List (List Placed)) → count ≤ more → ((n : ℕ) → 0 < times_in n ls → new n ≡ old n) → HoldAll old count ls → HoldAll new more ls
 levels-still old new count more [] grows same h = tt
 levels-still old new count more (l ∷ ls) grows same h = (held-still old new count more l grows (λ n k. same n (omega (arith, k))) h.0, levels-still old new count more ls grows (λ n k. same n (omega (arith, k))) h.1)
 
@@ -101,7 +101,7 @@ has-root bodies count key root ((p ∷ l) ∷ ls) walk t =
 abbrev pub with_levels : ℕ → List (List Placed) → (ℕ → List (List Placed)) → ℕ → List (List Placed)
 with_levels key grown levels = λ k. cond (key == k) grown (levels k)
 
-part-of-all : (n key keys : ℕ) (levels : ℕ → List (List Placed)) → key < keys → times_in n (levels key) ≤ times_all n keys levels
+pub part-of-all : (n key keys : ℕ) (levels : ℕ → List (List Placed)) → key < keys → times_in n (levels key) ≤ times_all n keys levels
 part-of-all n key zero levels low = absurd (omega (arith, low))
 part-of-all n key (suc keys) levels low = elim (cases_lt key keys) as (λ _. times_in n (levels key) ≤ times_in n (levels keys) + times_all n keys levels) [
   | inl lt ↦ omega (arith, part-of-all n key keys levels lt)
@@ -109,7 +109,7 @@ part-of-all n key (suc keys) levels low = elim (cases_lt key keys) as (λ _. tim
 ]
 
 -- two keys
-parts-of-all : (n key other keys : ℕ) (levels : ℕ → List (List Placed)) → key < keys → other < keys → (key ≡ other → ⊥) → times_in n (levels key) + times_in n (levels other) ≤ times_all n keys levels
+pub parts-of-all : (n key other keys : ℕ) (levels : ℕ → List (List Placed)) → key < keys → other < keys → (key ≡ other → ⊥) → times_in n (levels key) + times_in n (levels other) ≤ times_all n keys levels
 parts-of-all n key other zero levels low there apart = absurd (omega (arith, low))
 parts-of-all n key other (suc keys) levels low there apart = elim (cases_lt key keys) as (λ _. times_in n (levels key) + times_in n (levels other) ≤ times_in n (levels keys) + times_all n keys levels) [
   | inl lt ↦ elim (cases_lt other keys) as (λ _. times_in n (levels key) + times_in n (levels other) ≤ times_in n (levels keys) + times_all n keys levels) [
@@ -132,7 +132,7 @@ same-all n key (suc keys) grown levels h =
     let one : times_in n (with_levels key grown levels keys) ≡ times_in n (levels keys) = ap (λ (b : Bool). times_in n (cond b grown (levels keys))) other in
     omega (arith, one, same-all n key keys grown levels (omega (arith, h)))
 
-change-all : (n key keys : ℕ) (grown : List (List Placed)) (levels : ℕ → List (List Placed)) → key < keys → times_all n keys (with_levels key grown levels) + times_in n (levels key) ≡ times_all n keys levels + times_in n grown
+pub change-all : (n key keys : ℕ) (grown : List (List Placed)) (levels : ℕ → List (List Placed)) → key < keys → times_all n keys (with_levels key grown levels) + times_in n (levels key) ≡ times_all n keys levels + times_in n grown
 change-all n key zero grown levels low = absurd (omega (arith, low))
 change-all n key (suc keys) grown levels low = elim (cases_lt key keys) as (λ _. times_in n (with_levels key grown levels keys) + times_all n keys (with_levels key grown levels) + times_in n (levels key) ≡ times_in n (levels keys) + times_all n keys levels + times_in n grown) [
   | inl lt ↦
@@ -190,7 +190,7 @@ outside count n high =
     by false = refl
 
 -- how many pages there are behind the header
-more-pages : (before count n : ℕ) → 0 < before → before ≤ count → flag (nat_lt 0 n && nat_lt n before) + span before count n ≡ flag (nat_lt 0 n && nat_lt n count)
+pub more-pages : (before count n : ℕ) → 0 < before → before ≤ count → flag (nat_lt 0 n && nat_lt n before) + span before count n ≡ flag (nat_lt 0 n && nat_lt n count)
 more-pages before count n some grows = elim (cases_lt 0 n) as (λ _. flag (nat_lt 0 n && nat_lt n before) + span before count n ≡ flag (nat_lt 0 n && nat_lt n count)) [
   | inl positive ↦ elim (cases_lt n before) as (λ _. flag (nat_lt 0 n && nat_lt n before) + span before count n ≡ flag (nat_lt 0 n && nat_lt n count)) [
     | inl lt ↦ omega (arith, inside before n positive lt, inside count n positive (omega (arith, lt, grows)), span-under before count n lt)

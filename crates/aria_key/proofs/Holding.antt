@@ -28,7 +28,7 @@ all-index P [] h k d low = absurd (omega arith)
 all-index P (x ∷ xs) h zero d low = h.0
 all-index P (x ∷ xs) h (suc k) d low = all-index P xs h.1 k d (omega arith)
 
-long : (es : List Edit) (body : List ℕ) → AllByRecursion IsWithin es → length body ≡ BODY_BYTES → length (all_edited es body) ≡ BODY_BYTES
+pub long : (es : List Edit) (body : List ℕ) → AllByRecursion IsWithin es → length body ≡ BODY_BYTES → length (all_edited es body) ≡ BODY_BYTES
 long [] body h e = e
 long (x ∷ es) body h e = long es (edited x body) h.1 (length-edited x body h.0 e)
 
@@ -97,18 +97,18 @@ still file page n c d old new w apart h =
     record { body = h.body; there = w.other file n test ∙ h.there; size = h.size; spells = h.spells }
 
 -- a page in two
-pub in-two : (file : FileName) (page fresh : ℕ) (c : Content) (es : List Edit) (body between : List ℕ) (old mid new : Bodies) → HasContent (old file) page c → IsSplit c c es body between → IsSome (old file fresh) → (page ≡ fresh → ⊥)
-    → mid ≡ with_edits file page es old → new ≡ with_edits file fresh (Whole body ∷ []) mid → IsDivided file page fresh c between old new
-in-two file page fresh c es body between old mid new h s some apart em en =
-    let one : Rewritten file page (left_half c s.at) old mid = subst (Rewritten file page (left_half c s.at) old) (sym em) (rewritten file page es old c (left_half c s.at) h s.left) in
+pub in-two : (file : FileName) (page fresh : ℕ) (c all : Content) (es : List Edit) (body between : List ℕ) (old mid new : Bodies) → HasContent (old file) page c → IsSplit c all es body between → IsSome (old file fresh) → (page ≡ fresh → ⊥)
+    → mid ≡ with_edits file page es old → new ≡ with_edits file fresh (Whole body ∷ []) mid → IsDivided file page fresh all between old new
+in-two file page fresh c all es body between old mid new h s some apart em en =
+    let one : Rewritten file page (left_half all s.at) old mid = subst (Rewritten file page (left_half all s.at) old) (sym em) (rewritten file page es old c (left_half all s.at) h s.left) in
     let test : (same_file file file && (page == fresh)) ≡ false = (λ i. same_file-refl file i && ne_eqb page fresh apart i) in
     let there : IsSome (mid file fresh) = subst (λ (o : Option (List ℕ)). IsSome o) (sym (one.other file fresh test)) some in
-    let two : Rewritten file fresh (right_half c s.at) mid new = subst (Rewritten file fresh (right_half c s.at) mid) (sym en) (rewritten-whole file fresh body mid (right_half c s.at) there s.right) in
+    let two : Rewritten file fresh (right_half all s.at) mid new = subst (Rewritten file fresh (right_half all s.at) mid) (sym en) (rewritten-whole file fresh body mid (right_half all s.at) there s.right) in
     record {
       at = s.at;
       middle = s.middle;
       sizes = s.sizes;
-      left = still file fresh page (right_half c s.at) (left_half c s.at) mid new two apart one.here;
+      left = still file fresh page (right_half all s.at) (left_half all s.at) mid new two apart one.here;
       right = two.here;
       between_is = s.between;
       other = λ f n p q. two.other f n q ∙ one.other f n p;

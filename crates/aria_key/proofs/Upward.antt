@@ -26,7 +26,7 @@ use Rattle.aria_key.proofs.Owning.{times-append, IsOff, off-level, off-levels}
 abbrev pub halved : List Placed → Placed → ℕ → ℕ → Content → Content → List Placed → List Placed
 halved a p k fresh cl cr b = a ++ holding p cl ∷ holding (right_of p k fresh) cr ∷ b
 
-climb-either : (key root : ℕ) (u l : List Placed) (us downs : List (List Placed)) (walk : List Item) (n page at k fresh : ℕ) (x : Item) → Owes key root (u ∷ us) l downs walk n x → (c : IsChild u n page at)
+pub climb-either : (key root : ℕ) (u l : List Placed) (us downs : List (List Placed)) (walk : List Item) (n page at k fresh : ℕ) (x : Item) → Owes key root (u ∷ us) l downs walk n x → (c : IsChild u n page at)
     → 0 < k → k < length c.here.content.items → 0 < length (right_half c.here.content k).items
     → Filled (halved c.before c.here k fresh (left_with c.here.content k at x) (right_with c.here.content k at x) c.behind)
     → Owes key root us (halved c.before c.here k fresh (left_with c.here.content k at x) (right_with c.here.content k at x) c.behind) (l ∷ downs) walk (length c.before) (name_of (right_of c.here k fresh))

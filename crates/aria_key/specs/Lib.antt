@@ -18,3 +18,8 @@ pub mod Cursor
 pub mod WayUp
 pub mod Ahead
 pub mod Prefixed
+pub mod Thinning
+pub mod Merging
+pub mod Lifting
+pub mod Exchanging
+pub mod Removing

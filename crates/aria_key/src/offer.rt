@@ -23,7 +23,7 @@ pub(crate) enum Offer {
 }
 
 // Whether it is the same kind.
-fn is_same(kind: Kind, other: Kind) -> bool
+pub(crate) fn is_same(kind: Kind, other: Kind) -> bool
     ensures { IsTrue result ↔ (kind ≡ other) }
 {
     match kind {

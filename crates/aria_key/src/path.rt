@@ -1,7 +1,7 @@
 //! The way from a root down to a leaf.
 
 ghost use Rattle.std.specs.Prelude.{◌≡◌, ◌+◌, ◌<◌, [], ◌∷◌, ◌++◌, ◌≤◌, MatchOption, IfSome};
-ghost use Rattle.aria_key.specs.Path.{passed};
+ghost use Rattle.aria_key.specs.Path.{passed, IsTop};
 
 /// The most levels of a tree that are read.
 pub const MAX_LEVELS: usize = 16;
@@ -53,6 +53,14 @@ impl Path {
         ensures { result ≡ self.now.len }
     {
         self.len
+    }
+
+    // Whether no node was passed.
+    pub(crate) fn is_empty(&self) -> bool
+        requires { self.now.len ≤ MAX_LEVELS }
+        ensures empty { IsTop result (passed self.now) }
+    {
+        self.len == 0
     }
 
     // The way goes on through this child of a node.

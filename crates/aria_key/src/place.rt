@@ -31,7 +31,7 @@ pub(crate) struct Divided {
 }
 
 // Takes a page for the right half of one that has no room for an item, and puts the item into one of the two halves.
-fn place_in_half<P: Pages>(
+pub(crate) fn place_in_half<P: Pages>(
     alloc: Global,
     pages: &mut P,
     group: &mut OpenGroup,

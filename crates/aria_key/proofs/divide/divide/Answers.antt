@@ -23,4 +23,4 @@ returns-clause-divided g c = λ t content held some apart.
     let second : new.bodies ≡ with_edits (keys_file mid c.args.slot) c.args.fresh (Whole c.as_slice.result.now ∷ []) mid.bodies = (c.in_ok-edit_page-2.ensures.edits t).bodies in
     let two : new.bodies ≡ with_edits file c.args.fresh (Whole c.in_ok-split.split.right ∷ []) mid.bodies =
     ◌∙◌ {b = with_edits (keys_file mid c.args.slot) c.args.fresh (Whole c.as_slice.result.now ∷ []) mid.bodies} second (λ i. with_edits (table_file (names i c.args.slot) Keys) c.args.fresh (Whole (c.as_slice.ensures i) ∷ []) mid.bodies) in
-    in-two file c.args.page c.args.fresh content c.in_ok-split.split.left c.in_ok-split.split.right c.in_ok-split.split.between old.bodies mid.bodies new.bodies held (c.in_ok-split.ensures.split t content held) some apart one two
+    in-two file c.args.page c.args.fresh content content c.in_ok-split.split.left c.in_ok-split.split.right c.in_ok-split.split.between old.bodies mid.bodies new.bodies held (c.in_ok-split.ensures.split t content held) some apart one two

@@ -1,0 +1,6 @@
+use Rattle.std.proofs.Common.{◌≡◌, false, length}
+use Rattle.aria_cache.specs.MemPages.{MemStands}
+use Rattle.aria_key_tests.proofs.tests.turn_many.Given as goal
+
+abbrev pub invariant-loop-i : goal.invariant-loop-i
+invariant-loop-i l = MemStands l.pages × (l.pages.in_group ≡ false) × (length l.there.items ≡ 2000)
