@@ -2,3 +2,14 @@ pub mod Entries
 pub mod Undoing
 pub mod Tracing
 pub mod Walks
+pub mod Counted
+pub mod Placing
+pub mod Causing
+pub mod Ending
+pub mod Entering
+pub mod Fitting
+pub mod Listing
+pub mod Beginning
+pub mod Matching
+pub mod Refusals
+pub mod Departing

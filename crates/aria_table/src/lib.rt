@@ -6,6 +6,14 @@
 //! record, `proofs/Tracing.antt` that each front of the groups of changes holds what was there before them.
 #![tactic(auto)]
 
+mod counting;
 mod layout;
+mod refusing;
+mod row_check;
+mod row_entries;
+mod steps;
+mod table;
+mod taking_back;
 
 pub use layout::ROWS_AT;
+pub use table::Table;
